@@ -1,5 +1,5 @@
 -- What happens to the jobs does not depend on the order of the pieces.
-use Rattle.std.proofs.Common.{◌≡◌, ℕ, ◌<◌, ◌≤◌, min, Bool, true, false, cond, eqb, List, [], ◌∷◌, map, subst, ap, ◌∙◌, ℤ, arith, inl, inr, refl, length, zero, suc, ◌+◌, Option, Some, None}
+use Rattle.std.proofs.Common.{◌≡◌, ℕ, ◌<◌, ◌≤◌, min, Bool, true, false, cond, eqb, List, [], ◌∷◌, map, subst, ap, ◌∙◌, ℤ, arith, inl, inr, refl, length, zero, suc, ◌+◌, Some, None}
 use Rattle.std.specs.List.{range_with_len}
 use Rattle.std.specs.List.Sorted.{IsPermutation}
 use Rattle.std.proofs.lemmas.Bool.{cases_lt}
@@ -21,7 +21,7 @@ use Rattle.tf_check.specs.declared.judgement.Fit.{Fit}
 use Rattle.tf_check.specs.declared.judgement.Fit.TheVariants.{Fits, NoSchedule, Misfit}
 use Rattle.tf_evaluate.specs.declared.evaluation.JobOutcome.{JobOutcome}
 use Rattle.tf_evaluate.specs.Evaluating.{outcomes_for}
-use Rattle.tf_evaluate.specs.Outcomes.{first_start, outcome_by, outcome_on, outcome_of, outcome_in}
+use Rattle.tf_evaluate.specs.Outcomes.{first_start, outcome_by, outcome_on, outcome_in}
 
 -- a job's greatest is reached, and the other list has it too
 greatest_at_most : (f : Piece → ℕ) (ps qs : List Piece) (j : ℕ) → IsPermutation ps qs

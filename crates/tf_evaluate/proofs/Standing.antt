@@ -1,5 +1,5 @@
 -- What a schedule comes to.
-use Rattle.std.proofs.Common.{◌≡◌, ◌<◌, ◌≤ℤ◌, ◌<ℤ◌, ◌-ℤ◌, ℤ, pos, negsuc, ℕ, int_le, nat_le, unsigned_abs, Bool, true, false, cond, refl, sym, subst, ap, ◌∙◌, arith, List, Option, Some, None}
+use Rattle.std.proofs.Common.{◌≡◌, ◌<◌, ◌≤ℤ◌, ◌<ℤ◌, ◌-ℤ◌, ℤ, pos, negsuc, ℕ, int_le, nat_le, unsigned_abs, Bool, true, false, cond, refl, sym, subst, ap, ◌∙◌, arith, List, Option, Some, None, Result, Ok, Err}
 use Rattle.std.specs.Int.Signed.{le_z_yes}
 use Rattle.std.specs.Prelude.{T}
 use Rattle.std.proofs.lemmas.Bool.{le-leb, lt-ltb}
@@ -7,6 +7,7 @@ use Rattle.std.proofs.lemmas.Bool.Decides.{nat_tests}
 use Rattle.std.proofs.lemmas.Int.{ints}
 use Rattle.std.proofs.lemmas.List.Sorted.{All-permutation, IsPermutation-sym}
 use Rattle.tf_model.specs.SchedulingTask.{SchedulingTask}
+use Rattle.tf_model.specs.Sound.{IsSound}
 use Rattle.tf_model.specs.Timetable.{Timetable}
 use Rattle.tf_model.specs.Feasible.{Fits as FitsTask}
 use Rattle.tf_schedule.specs.declared.fit.Misfit.{Misfit as MisfitOf}
@@ -14,7 +15,11 @@ use Rattle.tf_schedule.specs.declared.piece.Piece.{Piece}
 use Rattle.tf_schedule.specs.Drawing.{drawing, IsOnMachine}
 use Rattle.tf_schedule.proofs.Permuted.{drawing_permutation, drawing_only}
 use Rattle.tf_schedule.proofs.Excludes.{no_misfit}
+use Rattle.tf_check.specs.Bound.{bound_by}
+use Rattle.tf_check.specs.Claim.{Claim}
 use Rattle.tf_check.specs.Judgement.{IsJudged}
+use Rattle.tf_check.specs.Laws.{bound_law}
+use Rattle.tf_check.specs.declared.fault.BoundFault.{BoundFault}
 use Rattle.tf_check.specs.Verdict.{DrawsFitting}
 use Rattle.tf_check.proofs.Verdicts.{fault_excludes}
 use Rattle.tf_text.specs.AnswerText.{SheetData}
@@ -22,7 +27,7 @@ use Rattle.tf_check.specs.declared.judgement.Fit.{Fit}
 use Rattle.tf_check.specs.declared.judgement.Fit.TheVariants.{Fits, NoSchedule, Misfit}
 use Rattle.tf_evaluate.specs.declared.evaluation.Standing.TheVariants.{Best, Beaten}
 use Rattle.tf_evaluate.specs.EvaluationData.{standing_of}
-use Rattle.tf_evaluate.specs.Evaluating.{IsLeastCost, HasFit, HasStanding, HasGap}
+use Rattle.tf_evaluate.specs.Evaluating.{IsLeastCost, HasFit, HasStanding, HasGap, ShowsLeast, bound_for}
 
 -- ---- a schedule that fits
 
@@ -60,6 +65,28 @@ fitting_standing k sheet value best false e (is, (rows, fitting, costs)) (least,
   is_best.fits,
   omega (arith, ints, costs, is_best.value, more value best e),
 )
+
+-- it is best where its certificate bounds as much
+pub shows_least : (k : SchedulingTask) (sheet : SheetData) (claim : Claim) (fit : Option Fit)
+    → IsSound k → HasFit k sheet fit → ShowsLeast k fit (bound_for k claim fit)
+shows_least k sheet claim (Some (Fits value)) sound (is, (rows, fitting, costs)) =
+    least_under (bound_by claim k) refl
+  where
+    least_under : (found : Result ℤ BoundFault) → bound_by claim k ≡ found
+        → ShowsLeast k (Some (Fits value)) (Some found)
+    least_under (Ok bound) bounded = λ enough. (
+      rows,
+      record {
+        fits = fitting.fits;
+        value = costs;
+        least = λ other fits.
+            omega (arith, ints, enough, bound_law claim k other bound sound bounded fits);
+      },
+    )
+    least_under (Err fault) bounded = tt
+shows_least k sheet claim None sound h = tt
+shows_least k sheet claim (Some (NoSchedule fault)) sound h = tt
+shows_least k sheet claim (Some (Misfit misfit)) sound h = tt
 
 -- ---- a schedule that does not
 

@@ -1,5 +1,5 @@
 -- How an answer stands to a task.
-use Rattle.std.specs.Prelude.{◌≡◌, ◌↔◌, ℤ, ◌<ℤ◌, List, [], map, length, Option, None, Some, Result, Ok}
+use Rattle.std.specs.Prelude.{◌≡◌, ◌↔◌, ℤ, ◌<ℤ◌, ◌≤ℤ◌, List, [], map, length, Option, None, Some, Result, Ok}
 use Rattle.tf_model.specs.declared.problem.Problem.{Problem}
 use Rattle.tf_model.specs.SchedulingTask.{SchedulingTask, all_jobs}
 use Rattle.tf_model.specs.Timetable.{Timetable}
@@ -28,6 +28,11 @@ use Rattle.tf_evaluate.specs.Arithmetic.{arithmetic, last_result}
 -- some timetable fits and costs this, and none that fits costs less
 abbrev pub IsLeastCost : SchedulingTask → ℤ → Type 0
 IsLeastCost k best = (rows : Timetable) × IsBest k rows best
+
+-- where a schedule costs no more than its certificate bounds, none that fits costs less
+abbrev pub ShowsLeast : SchedulingTask → Option Fit → Option (Result ℤ BoundFault) → Type 0
+ShowsLeast k (Some (Fits value)) (Some (Ok bound)) = value ≤ℤ bound → IsLeastCost k value
+ShowsLeast k _ _ = Unit {0}
 
 -- how the pieces of a sheet stand to the task, which may be another one
 abbrev pub HasFit : SchedulingTask → SheetData → Option Fit → Type 0

@@ -8,7 +8,7 @@ ghost use Rattle.tf_text.specs.AnswerText.{SheetData};
 ghost use Rattle.tf_engine.specs.Checking.{IsFor};
 ghost use Rattle.tf_engine.specs.Solvers.{IsNotSolved};
 ghost use Rattle.tf_evaluate.specs.Evaluating.{EndsInBound, IsBoundOf, IsEvaluation, IsLeastCost};
-ghost use Rattle.tf_evaluate.specs.Evaluating.{HasFit, HasStanding, HasGap, bound_for};
+ghost use Rattle.tf_evaluate.specs.Evaluating.{HasFit, HasStanding, HasGap, ShowsLeast, bound_for};
 ghost use Rattle.tf_evaluate.specs.Evaluating.{outcomes_for, steps_for};
 ghost use Rattle.tf_evaluate.specs.EvaluationData.{standing_of};
 
@@ -45,7 +45,6 @@ pub fn evaluate<A: Allocator + Copy, B: Allocator, C: Allocator>(
     ensures refused { IfErr result (IsNotSolved task.now) }
 {
     let jobs = task.len() as u32;
-    let best = least_cost(alloc, task)?;
     let is_its = is_for(task, &sheet);
     let Answer {
         pieces,
@@ -57,6 +56,7 @@ pub fn evaluate<A: Allocator + Copy, B: Allocator, C: Allocator>(
         bound,
         outcomes,
     } = judge_sheet(alloc, task, is_its, pieces.into_vec(), &certificate)?;
+    let best = best_beside(alloc, task, &fit, &bound)?;
     let steps = steps_of(alloc, task, &certificate, &bound, detail)?;
     Ok(Evaluation {
         problem: *problem,
@@ -69,6 +69,28 @@ pub fn evaluate<A: Allocator + Copy, B: Allocator, C: Allocator>(
         steps,
         outcomes,
     })
+}
+
+// The least cost of a timetable that fits: that of the schedule, where its certificate bounds as
+// much.
+fn best_beside<A: Allocator + Copy, B: Allocator>(
+    alloc: A,
+    task: &Task<B>,
+    fit: &Option<Fit>,
+    bound: &Option<Result<i128, BoundFault>>,
+) -> Result<i64, SolveFault<A>>
+    requires shown { ShowsLeast task.now fit.now bound.now }
+    ensures least { IfOk result (IsLeastCost task.now) }
+    ensures refused { IfErr result (IsNotSolved task.now) }
+{
+    if let Some(Fit::Fits(value)) = fit
+        && let Some(Ok(bound)) = bound
+        && value <= bound
+        && let Ok(best) = i64::try_from(*value)
+    {
+        return Ok(best);
+    }
+    least_cost(alloc, task)
 }
 
 /// The least cost of a timetable that fits. A cycle of arcs is refused, since then none does.

@@ -4,20 +4,35 @@ use Rattle.tf_schedule.specs.declared.piece.Piece.{Piece}
 use Rattle.tf_check.specs.Certificate.{claim_of}
 use Rattle.tf_check.specs.Claim.{AnswerData, Claim}
 use Rattle.tf_evaluate.specs.EvaluationData.{standing_of}
-use Rattle.tf_evaluate.specs.Evaluating.{HasFit, HasGap, HasStanding, IsLeastCost, bound_for, outcomes_for, steps_for}
-use Rattle.tf_evaluate.proofs.Standing.{standing_is, gap_is}
+use Rattle.tf_evaluate.specs.Evaluating.{HasFit, HasGap, HasStanding, IsLeastCost, ShowsLeast, bound_for, outcomes_for, steps_for}
+use Rattle.tf_evaluate.proofs.Standing.{standing_is, gap_is, shows_least}
 use Rattle.tf_evaluate.proofs.evaluate.evaluate.Goals as goal
 
 -- the pieces that are judged are those of the sheet
-pieces_are : (g : _) (c : goal.Joined-certificate-3 g)
+pieces_are : (g : _) (c : goal.Joined-certificate-4 g)
     → c.args.sheet.answer.pieces ≡ c.into_vec.result.items
 pieces_are g c =
     sym (c.into_vec.ensures
     ∙ ap (λ (a : AnswerData). a.pieces) (c.pieces.view_is ∙ c.into_answer.ensures))
 
-fit_is : (g : _) (c : goal.Joined-certificate-3 g)
+fit_is : (g : _) (c : goal.Joined-certificate-4 g)
     → HasFit c.args.task.now c.args.sheet c.in_ok-fit.field-0.fit
 fit_is g c = c.in_ok-fit.ensures.fit c.args.sheet (pieces_are g c) c.is_for-is_its.ensures
+
+pub best_beside-requires : goal.best_beside-requires
+best_beside-requires g c =
+    let k = c.args.task.now in
+    let sheet = c.args.sheet in
+    let claim = claim_of c.pieces.inside.certificate in
+    let fit = c.in_ok-fit.field-0.fit in
+    let same : sheet.answer.pieces ≡ c.into_vec.result.items =
+    sym (c.into_vec.ensures
+    ∙ ap (λ (a : AnswerData). a.pieces) (c.pieces.view_is ∙ c.into_answer.ensures)) in
+    record {
+      shown = subst (ShowsLeast k fit) (sym c.in_ok-fit.ensures.bound)
+          (shows_least k sheet claim fit c.len-jobs.ensures.sound
+          (c.in_ok-fit.ensures.fit sheet same c.is_for-is_its.ensures));
+    }
 
 pub returns-clause-standing : goal.returns-clause-standing
 returns-clause-standing g c =
