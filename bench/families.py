@@ -178,7 +178,8 @@ def families():
         made[f"P3||Cmax, {n} jobs"] = drawn(f"P3||Cmax {n}", 10, lambda draw, n=n: table(timed_jobs(n, draw)))
     made["1|prec|sumwC, 50 jobs"] = drawn("1|prec|sumwC", 6, ordered_table)
     made["F2||sumwT, 40 jobs"] = tardy("F2||sumwT", 40, (0.4, 0.8), wide, made=shop_jobs)
-    made["F5||Cmax, 20 jobs (Taillard)"] = ("F5||Cmax", [flow_file(taillard(seed, 20, 5)) for seed, _ in TAILLARD])
+    for problem in ("F5||Cmax", "F5|prmu|Cmax"):
+        made[f"{problem}, 20 jobs (Taillard)"] = (problem, [flow_file(taillard(seed, 20, 5)) for seed, _ in TAILLARD])
     made["F20||Cmax, 500 jobs"] = flow("F20||Cmax", 5, 500, 20)
     made["F10|nwt|Cmax, 50 jobs"] = flow("F10|nwt|Cmax", 5, 50, 10)
     made["F5||sumC, 20 jobs"] = flow("F5||sumC", 5, 20, 5)

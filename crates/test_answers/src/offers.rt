@@ -68,7 +68,8 @@ fn assess<'a>(
     sheet: BoundSheet<&'a Refusing<Global>>,
     sink: &mut Sink,
 ) -> Result<Assessed, Unassessed> {
-    let effort: Effort<Nobody> = Effort::untold(None);
+    // Prices would bound as much, so no steps are taken for them.
+    let effort: Effort<Nobody> = Effort::untold(Some(0));
     let offered = Some(sheet);
     let aids = Aids { effort, offered };
     let mut instance = Counted::new(INSTANCE);
