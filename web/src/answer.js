@@ -9,7 +9,7 @@ const JOB = new TextEncoder().encode("job ");
 const SHORTEST_PIECE = "piece 1 1 0 1\n".length;
 /** The line of a bound's certificate: `job` has one number, `alone` none, and others have more. */
 const BOUND_KIND = new RegExp("^(alone$|job \\d+$|"
-  + "(window|crowd|machine|multipliers|prices|kept|shortest|ranks|parts) )");
+  + "(window|crowd|machine|multipliers|prices|prices_on|kept|shortest|ranks|parts) )");
 const decoder = new TextDecoder();
 
 /** Walks over the lines of a text of bytes, and makes no string of what is not kept. */

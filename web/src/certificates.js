@@ -27,26 +27,34 @@ const BOUND_WORDS = {
   crowd: "These jobs are so many that one machine has to do several of them.",
   parts: "If none of these jobs is to be so late, they have more to do between the first two times "
     + "below than the machines have room for.",
+  pair: "All jobs pass the two machines below in one order. These jobs are counted by their time on "
+    + "the first, the others by their time on the second, and one of the machines has to wait besides.",
   machine: "One machine has to do all these jobs, one after another.",
   alone: "Each job starts when it is released, or when the jobs that it has to follow can be done, and "
     + "no other job is in its way.",
   multipliers: "Completion times are weighted by the multipliers below; in Smith's order no sum of "
     + "them is smaller.",
   kept: "By due date, job after job is planned in. Where the planned ones take longer than there "
-    + "is time, the longest of them is put aside. As many jobs as are put aside are late at least.",
+    + "is time, the longest of them is put aside. As many jobs as are put aside are late at least. "
+    + "Where late jobs have weights, no choice that leaves time for the others weighs less.",
   shortest: "At each time the released job of the shortest remaining time runs, even where it "
     + "interrupts another one. No sum of completion times is smaller.",
   ranks: "Each job delays itself and the jobs after it on its machine: one job for each machine "
     + "counts once, as many count twice, and so on. With the longest jobs last no sum is smaller.",
+  potentials: "No job waits, so two jobs that follow each other start apart by at least their delay. "
+    + "The first number below is for the end; then each job has two, one towards the next job and "
+    + "one towards the one before.",
   prices: "Each time step has a price, listed below. No schedule costs less than what all jobs pay "
     + "at the times that are cheapest for them, less the prices of all steps.",
+  prices_on: "On one machine each time step has a price, listed below. No schedule costs less than "
+    + "what all jobs pay at the times there that are cheapest for them, less the prices of all steps.",
 };
 
 const ARC_WORDS = " Along a precedence constraint the later job gives some of its multiplier to "
   + "the one before it.";
 
 /** How many numbers stand before the jobs of a certificate, for the kinds that list jobs. */
-const BEFORE_JOBS = { last: 0, window: 0, job: 0, crowd: 1, parts: 3 };
+const BEFORE_JOBS = { last: 0, window: 0, job: 0, crowd: 1, pair: 4, parts: 3 };
 
 /** The jobs of a certificate, from 1; ranges such as 3-5 are all their jobs. */
 export function certificateJobs(certificate, most, before = BEFORE_JOBS) {
