@@ -7,9 +7,11 @@ use test_runs::examples::Given;
 use test_runs::growths::{Ended, ample, refuse_each_growth};
 use test_runs::runs::{Ending, ending_of, ensure, request};
 use tf_assess::measures::{PosedInstance, posed_in};
+use tf_assess::offered::Aids;
 use tf_engine::request::Request;
 use tf_model::memory::OutOfMemory;
-use tf_orders::run_orders::{OrderForm, OrdersRequest, run_orders};
+use tf_orders::run_orders::{Measuring, OrderForm, OrdersRequest, run_orders};
+use tf_search::effort::{Effort, Nobody};
 use tf_text::answer::layout::Layout;
 use tf_text::counted::Counted;
 
@@ -140,7 +142,13 @@ fn rate(
         request,
         form: case.form,
     };
-    match run_orders(heap, asked, others, &mut reader, &mut other, &mut writer) {
+    let effort: Effort<Nobody> = Effort::untold(None);
+    let aids = Aids {
+        effort,
+        offered: None,
+    };
+    let measuring = Measuring { aids, others };
+    match run_orders(heap, asked, measuring, &mut reader, &mut other, &mut writer) {
         Ok(_) => Ending::Answered,
         Err(fault) => ending_of(&fault),
     }

@@ -26,7 +26,7 @@ pub struct Aids<P, A: Allocator = Global> {
 
 /// The stronger of what was found and what is offered.
 #[derive(Drop)]
-pub(crate) struct Weighed<A: Allocator = Global> {
+pub struct Weighed<A: Allocator = Global> {
     pub offered: Option<Offered>,
     pub bound: Found<A>,
 }
@@ -86,7 +86,7 @@ fn used<A: Allocator>(
 
 /// The bound that was found beside the one that is offered, if any is. Only want of memory is an
 /// error.
-pub(crate) fn weigh<A: Allocator + Copy, B: Allocator>(
+pub fn weigh<A: Allocator + Copy, B: Allocator>(
     alloc: A,
     task: &ProblemTask<B>,
     offer: Option<BoundSheet<A>>,

@@ -23,6 +23,7 @@ use Rattle.tf_orders.specs.declared.run_orders.OrderForm.{OrderForm}
 use Rattle.tf_orders.specs.declared.run_orders.OrdersRated.{OrdersRated}
 use Rattle.tf_orders.specs.declared.run_orders.OrdersRated.TheVariants.{Single, Lines}
 use Rattle.tf_orders.specs.RunOrders.{IsOrdersRunOf}
+use Rattle.tf_bound_text.specs.BoundSheetData.{BoundSheetData}
 use Rattle.tf_bounding.specs.RunBounding.{IsBoundingOf}
 use Rattle.tf_trace.specs.RunTracing.{IsTraceOf}
 use Rattle.tf_options.specs.declared.options.Drawing.{Drawing}
@@ -130,10 +131,10 @@ pub record EndsEvaluating (A : Type 0) (detail : Detail) (request : RequestData)
   pub ends : status ≡ status_of_evaluating run
   pub said : says (line_of run)
 
-pub record EndsRating (A : Type 0) (form : OrderForm) (request : RequestData)
-    (others : Option PosedData) (instance orders writer : DeviceUse) (says : List ℕ → Type 0)
-    (status : ℕ) : Type 0 where
+pub record EndsRating (A : Type 0) (form : OrderForm) (offer : Option BoundSheetData)
+    (request : RequestData) (others : Option PosedData) (instance orders writer : DeviceUse)
+    (says : List ℕ → Type 0) (status : ℕ) : Type 0 where
   pub run : Result OrdersRated (RunFault A)
-  pub outcome : IsOrdersRunOf form request others instance orders writer run
+  pub outcome : IsOrdersRunOf form offer request others instance orders writer run
   pub ends : status ≡ status_of_rating run
   pub said : says (line_of run)

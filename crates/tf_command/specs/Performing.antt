@@ -1,5 +1,6 @@
 -- What the program does of what is asked for: which run over which texts ends how.
 use Rattle.std.specs.Prelude.{◌≡◌, ◌⊎◌, ◌++◌, ℕ, Bool, false, true, List, [], Option, None, Some, Ok, Err, IfSome, MatchOption, codes, if◌then◌else◌}
+use Rattle.std.specs.Borrow.{Bor}
 use Rattle.std.specs.declared.alloc.Global.{Global}
 use Rattle.std.specs.Io.KnownBytes.{Appends, Keeps}
 use Rattle.tf_listing.specs.Listing.{listing}
@@ -27,7 +28,9 @@ use Rattle.tf_engine.specs.Refusal.{refused_by}
 use Rattle.tf_command.specs.FaultLine.{fault_line, no_table_line}
 use Rattle.tf_command.specs.Statuses.{status_of, status_of_no_table}
 use Rattle.tf_command.specs.Ending.{EndsSolving, EndsBounding, EndsTracing, EndsChecking, EndsDrawing, EndsEvaluating, EndsRating, EndsPicturing}
-use Rattle.tf_command.specs.Assessing.{EndsAssessing}
+use Rattle.tf_bound_text.specs.BoundSheetData.{BoundSheetData}
+use Rattle.tf_bound_text.specs.BoundReading.{bound_in}
+use Rattle.tf_command.specs.Assessing.{EndsAssessing, EndsUnread}
 use Rattle.tf_command.specs.Planning.{EndsPlanning}
 use Rattle.tf_command.specs.Unread.{IsUnread, Texts}
 use Rattle.tf_assess.specs.Measures.{IsPosed, IsUnposed, PosedData}
@@ -117,13 +120,13 @@ abbrev pub lines_form : Bool → Bool → OrderForm
 lines_form goes_on is_numbered = if is_numbered then Numbered goes_on else Lines goes_on
 
 -- the orders or the pieces of the text of this name are rated
-abbrev pub RatesNamed : Texts → Options → List ℕ → OrderForm → DeviceUse → (Bool → List ℕ → Type 0)
-    → ℕ → Type 0
-RatesNamed texts options name form writer says status =
+abbrev pub RatesNamed : Texts → Options → List ℕ → OrderForm → Option BoundSheetData → DeviceUse
+    → (Bool → List ℕ → Type 0) → ℕ → Type 0
+RatesNamed texts options name form offer writer says status =
     let said = says options.telling.explain in
     EndsOverBoth texts options.input.now name writer said status
-    (λ instance other. EndsRating Global form (requested options Two) None instance other writer said
-    status)
+    (λ instance other. EndsRating Global form offer (requested options Two) None instance other
+    writer said status)
 
 -- ---- orders and pieces with their values by the other objectives, of which the texts are read first
 
@@ -147,7 +150,8 @@ abbrev pub AreOthers : RequestData → List ℕ → Option PosedData → Type 0
 AreOthers request text others = MatchOption others (IsUnposed request text) (IsPosed request text)
 
 pub record EndsMeasuring (texts : Texts) (options : Options) (source : OrderSource)
-    (writer : DeviceUse) (says : List ℕ → Type 0) (status : ℕ) : Type 0 where
+    (offer : Option BoundSheetData) (writer : DeviceUse) (says : List ℕ → Type 0) (status : ℕ)
+    : Type 0 where
   pub instance : List ℕ
   pub is_file : IsTextOf (texts options.input.now) instance
   pub text : List ℕ
@@ -158,36 +162,57 @@ pub record EndsMeasuring (texts : Texts) (options : Options) (source : OrderSour
   pub reads : reader.before ≡ Some instance
   pub orders : DeviceUse
   pub reads_orders : orders.before ≡ Some text
-  pub done : EndsRating Global (source_form source) (requested options Two) others reader orders
-      writer says status
+  pub done : EndsRating Global (source_form source) offer (requested options Two) others reader
+      orders writer says status
 
 -- a text was not read, or there was no memory
-abbrev pub RatesMeasured : Texts → Options → OrderSource → DeviceUse → (List ℕ → Type 0) → ℕ
-    → Type 0
-RatesMeasured texts options source writer says status =
-    EndsMeasuring texts options source writer says status
+abbrev pub RatesMeasured : Texts → Options → OrderSource → Option BoundSheetData → DeviceUse
+    → (List ℕ → Type 0) → ℕ → Type 0
+RatesMeasured texts options source offer writer says status =
+    EndsMeasuring texts options source offer writer says status
     ⊎ IsUnread texts writer says status
     ⊎ ((status ≡ 3) × Keeps writer.before writer.after × says (codes "threefield: want of memory\n"))
 
--- orders or pieces are rated, with their values by the other objectives where those are asked for
-abbrev pub RatesOrders : Bool → Texts → Options → OrderSource → DeviceUse → (Bool → List ℕ → Type 0)
-    → ℕ → Type 0
-RatesOrders true texts options source writer says status =
-    RatesMeasured texts options source writer (says options.telling.explain) status
-RatesOrders false texts options (Given order) writer says status =
+-- orders or pieces are rated beside what is offered, with their values by the other objectives
+-- where those are asked for
+abbrev pub RatesOrders : Bool → Texts → Options → OrderSource → Option BoundSheetData → DeviceUse
+    → (Bool → List ℕ → Type 0) → ℕ → Type 0
+RatesOrders true texts options source offer writer says status =
+    RatesMeasured texts options source offer writer (says options.telling.explain) status
+RatesOrders false texts options (Given order) offer writer says status =
     let said = says options.telling.explain in
     EndsOver texts options.input.now writer said status
     (λ instance. (reader : DeviceUse) × (reader.before ≡ Some order.now)
-    × EndsRating Global Single (requested options Two) None instance reader writer said status)
-RatesOrders false texts options (Ruled rule) writer says status =
+    × EndsRating Global Single offer (requested options Two) None instance reader writer said
+    status)
+RatesOrders false texts options (Ruled rule) offer writer says status =
     let said = says options.telling.explain in
     EndsOver texts options.input.now writer said status
     (λ instance. (reader : DeviceUse) × (reader.before ≡ Some [])
-    × EndsRating Global (ByRule rule) (requested options Two) None instance reader writer said status)
-RatesOrders false texts options (Named name goes_on is_numbered) writer says status =
-    RatesNamed texts options name.now (lines_form goes_on is_numbered) writer says status
-RatesOrders false texts options (Drawn name) writer says status =
-    RatesNamed texts options name.now Pieces writer says status
+    × EndsRating Global (ByRule rule) offer (requested options Two) None instance reader writer said
+    status)
+RatesOrders false texts options (Named name goes_on is_numbered) offer writer says status =
+    RatesNamed texts options name.now (lines_form goes_on is_numbered) offer writer says status
+RatesOrders false texts options (Drawn name) offer writer says status =
+    RatesNamed texts options name.now Pieces offer writer says status
+
+-- the text of a bound was not read, or says a sheet, beside which orders or pieces are rated
+abbrev pub RatesBeside : Texts → Options → OrderSource → DeviceUse → DeviceUse
+    → (Bool → List ℕ → Type 0) → ℕ → Type 0
+RatesBeside texts options source bound writer says status =
+    EndsUnread bound writer (says options.telling.explain) status
+    ⊎ ((text : List ℕ) × IsTextOf bound.before text
+    × ((sheet : BoundSheetData) × (bound_in text ≡ Ok sheet)
+    × RatesOrders options.telling.measures texts options source (Some sheet) writer says status))
+
+-- orders or pieces are rated, beside the bound of the text of a name where there is one
+abbrev pub RatesAided : Option (Bor (List ℕ)) → Texts → Options → OrderSource → DeviceUse
+    → (Bool → List ℕ → Type 0) → ℕ → Type 0
+RatesAided None texts options source writer says status =
+    RatesOrders options.telling.measures texts options source None writer says status
+RatesAided (Some name) texts options source writer says status =
+    EndsOver texts name.now writer (says options.telling.explain) status
+    (λ bound. RatesBeside texts options source bound writer says status)
 
 -- the random table that is wanted was written; or why there is none is said, and nothing was written
 abbrev pub EndsRandom : Wanted → DeviceUse → (List ℕ → Type 0) → ℕ → Type 0
@@ -230,8 +255,8 @@ Performs texts (Assess assessing) writer says status =
     (λ instance other. EndsOver texts assessing.bound.now writer said status
     (λ bound. EndsAssessing Global (requested assessing.options Two) instance other bound writer said
     status))
-Performs texts (Rate options source) writer says status =
-    RatesOrders options.telling.measures texts options source writer says status
+Performs texts (Rate options source aids) writer says status =
+    RatesAided aids.bound texts options source writer says status
 Performs texts (Gantt answer drawing explain) writer says status =
     EndsOver texts answer.now writer (says explain) status
     (λ reader. EndsDrawing Global drawing reader writer (says explain) status)

@@ -4,6 +4,7 @@ ghost use Rattle.tf_assess.specs.RunAssessing.{IsAssessmentOf};
 ghost use Rattle.tf_assess.specs.RunRating.{IsRatingOf};
 ghost use Rattle.tf_bounding.specs.RunBounding.{IsBoundingOf};
 ghost use Rattle.tf_command.specs.Planning.{IsPlannedRun};
+ghost use Rattle.tf_orders.specs.RunOrders.{IsOrdersRunOf};
 ghost use Rattle.tf_command.specs.Recorded.{bytes_left};
 ghost use Rattle.tf_text.specs.Counted.{use_of};
 
@@ -22,6 +23,7 @@ use tf_engine::fault::RunFault;
 use tf_engine::request::Request;
 use tf_evaluate::evaluation::Standing;
 use tf_options::options::Evaluating;
+use tf_orders::run_orders::{Measuring, OrdersRated, OrdersRequest, run_orders};
 use tf_planning::progress::PlanProgress;
 use tf_planning::writing::Planned;
 use tf_search::effort::{Effort, Nobody, Progress};
@@ -207,6 +209,53 @@ pub(crate) fn assess_over<R: Read, S: Read, W: Write, E: Write>(
         let aids = Aids { effort, offered };
         let asked = AssessmentRequest { request, aids };
         run_assess(alloc, asked, instance, answer, &mut console.writer)
+    }
+}
+
+/// Runs a rating of orders or pieces, and shows the progress as [`assess_over`] does.
+pub(crate) fn orders_over<R: Read, S: Read, W: Write, E: Write>(
+    console: &mut Console<W, E>,
+    is_told: bool,
+    asked: OrdersRequest<'_>,
+    measuring: Measuring<Nobody>,
+    instance: &mut Counted<Recorded<'_, R>>,
+    orders: &mut Counted<Recorded<'_, S>>,
+) -> Result<OrdersRated, RunFault>
+    ensures outcome { IsOrdersRunOf asked.entry.form measuring.aids.offered
+        asked.entry.request.now measuring.others
+        (use_of (bytes_left R.remaining) instance.old instance.new)
+        (use_of (bytes_left S.remaining) orders.old orders.new)
+        (use_of W.contents console.old.writer console.new.writer) result }
+    ensures untold { is_told ≡ false → console.new.errors ≡ console.old.errors }
+{
+    let alloc = console.alloc;
+    let Measuring { aids, others } = measuring;
+    let Aids { effort, offered } = aids;
+    let steps = effort.steps;
+    if is_told && console.is_terminal {
+        let effort = shown_on(&mut console.errors, steps);
+        let aids = Aids { effort, offered };
+        let measuring = Measuring { aids, others };
+        run_orders(
+            alloc,
+            asked,
+            measuring,
+            instance,
+            orders,
+            &mut console.writer,
+        )
+    } else {
+        let effort: Effort<StepLine<'_, E>> = Effort::untold(steps);
+        let aids = Aids { effort, offered };
+        let measuring = Measuring { aids, others };
+        run_orders(
+            alloc,
+            asked,
+            measuring,
+            instance,
+            orders,
+            &mut console.writer,
+        )
     }
 }
 

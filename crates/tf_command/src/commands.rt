@@ -70,7 +70,9 @@ pub fn perform<S: Sources, W: Write, E: Write>(
         Work::Check(options, answer) => check_named(console, sources, options, answer),
         Work::Evaluate(evaluating) => evaluate_named(console, sources, evaluating),
         Work::Assess(assessing) => assess_named(console, sources, assessing),
-        Work::Rate(options, source) => rate_orders(console, sources, options, *source),
+        Work::Rate(options, source, aids) => {
+            rate_orders(console, sources, options, *source, *aids)
+        }
         Work::Gantt {
             answer,
             drawing,

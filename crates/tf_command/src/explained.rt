@@ -160,6 +160,8 @@ impl Dated<'_> {
 #[derive(Clone, Copy)]
 pub struct Rated<'a> {
     pub form: OrderForm,
+    /// Whether a bound is offered beside them.
+    pub is_bounded: bool,
     pub run: &'a Result<OrdersRated, RunFault>,
 }
 
@@ -269,21 +271,22 @@ impl Ended<'_> {
     }
 
     // The pieces of a schedule that was rated, which are made again, where it was one.
-    fn rated_pieces(&self, form: OrderForm, told: &Told<'_>) -> Option<Vec<Piece>> {
+    fn rated_pieces(&self, rated: &Rated<'_>, told: &Told<'_>) -> Option<Vec<Piece>> {
         let orders = told.answer.as_ref()?;
         let asked = OrdersRequest {
             request: self.request,
-            form,
+            form: rated.form,
         };
-        pieces_again(self.alloc, asked, told.instance.text, orders.text)
+        let instance = told.instance.text;
+        pieces_again(self.alloc, asked, rated.is_bounded, instance, orders.text)
     }
 
     // What is said of a schedule that does not fit.
-    fn unfit_rated(&self, form: OrderForm, told: &Told<'_>) -> Result<String, AllocError> {
-        let Some(pieces) = self.rated_pieces(form, told) else {
+    fn unfit_rated(&self, rated: &Rated<'_>, told: &Told<'_>) -> Result<String, AllocError> {
+        let Some(pieces) = self.rated_pieces(rated, told) else {
             return Ok(String::new(self.alloc));
         };
-        let schedule = if form == OrderForm::Pieces {
+        let schedule = if rated.form == OrderForm::Pieces {
             told.answer.as_ref()
         } else {
             None
@@ -292,8 +295,8 @@ impl Ended<'_> {
     }
 
     // What is said of one that fits.
-    fn fit_rated(&self, form: OrderForm, told: &Told<'_>) -> Result<String, AllocError> {
-        match self.rated_pieces(form, told) {
+    fn fit_rated(&self, rated: &Rated<'_>, told: &Told<'_>) -> Result<String, AllocError> {
+        match self.rated_pieces(rated, told) {
             Some(pieces) => {
                 explain::fit_pieces(
                     self.alloc,
@@ -337,8 +340,8 @@ impl Ended<'_> {
     ) {
         if let Some(told) = Told::of_both(instance, orders) {
             let explanation = match rated.run {
-                Ok(OrdersRated::Single(Standing::Unfit)) => self.unfit_rated(rated.form, &told),
-                Ok(OrdersRated::Single(_)) => self.fit_rated(rated.form, &told),
+                Ok(OrdersRated::Single(Standing::Unfit)) => self.unfit_rated(&rated, &told),
+                Ok(OrdersRated::Single(_)) => self.fit_rated(&rated, &told),
                 Ok(OrdersRated::Lines) => Ok(String::new(self.alloc)),
                 Err(RunFault::Answer(AnswerFault::BadLine(line))) => {
                     self.malformed(rated.form, told.answer.as_ref(), *line)

@@ -1,48 +1,134 @@
 //! Evaluating the schedules of orders and of pieces, over whatever gives and takes bytes.
-ghost use Rattle.std.specs.Prelude.{◌≡◌, false, IfOk, IfErr};
+ghost use Rattle.std.specs.Prelude.{◌≡◌, false, Some, IfOk, IfErr};
 ghost use Rattle.std.specs.declared.alloc.Global.{Global};
 ghost use Rattle.tf_options.specs.Asking.{requested};
 ghost use Rattle.tf_options.specs.declared.options.Work.TheVariants.{Rate as RatesBy};
 ghost use Rattle.tf_command.specs.Ending.{EndsRating, SaysLine};
 ghost use Rattle.tf_command.specs.Performing.{IsSourceText, Performs, RatesMeasured, RatesNamed};
-ghost use Rattle.tf_command.specs.Performing.{AreOthers, RatesOrders, lines_form, source_form};
+ghost use Rattle.tf_command.specs.Performing.{AreOthers, RatesAided, RatesBeside, RatesOrders};
+ghost use Rattle.tf_command.specs.Performing.{lines_form, source_form};
 ghost use Rattle.tf_command.specs.Recorded.{bytes_left};
 ghost use Rattle.tf_command.specs.Unread.{IsUnread};
 ghost use Rattle.tf_text.specs.Counted.{use_of};
 
+use crate::bounding::orders_over;
 use crate::commands::{open, open_both};
 use crate::console::Console;
 use crate::explained::{Ended, Rated};
 use crate::reading::text_named;
-use crate::recorded::{MOST_KEPT, Recorded, room};
-use crate::report::{end_rating, say_memory};
+use crate::recorded::{MOST_BESIDE, MOST_KEPT, Recorded, room};
+use crate::report::{end_rating, report_bound, say_memory};
 use crate::source::Sources;
 use std::alloc::Global;
 use std::io::{Read, Write};
+use tf_assess::bound_read::bound_read;
 use tf_assess::measures::{PosedInstance, posed_in};
+use tf_assess::offered::Aids;
 use tf_model::memory::OutOfMemory;
+use tf_options::aids;
 use tf_options::options::{Options, OrderSource};
-use tf_orders::run_orders::{OrderForm, OrdersRequest, run_orders};
+use tf_orders::run_orders::{Measuring, OrderForm, OrdersRequest};
+use tf_search::effort::{Effort, Nobody};
 use tf_sequencing::rule::Rule;
 use tf_text::answer::layout::Layout;
 use tf_text::counted::Counted;
 
+/// What orders or pieces are, and what they are rated by.
+#[derive(Drop)]
+struct Rates {
+    form: OrderForm,
+    aids: Aids<Nobody>,
+    others: Option<PosedInstance>,
+}
+
 /// Evaluates the schedules of orders or pieces, with their values by the other objectives where
-/// those are asked for.
+/// those are asked for. The text of a bound is read first.
 pub(crate) fn rate_orders<S: Sources, W: Write, E: Write>(
     console: &mut Console<W, E>,
     sources: &S,
     options: &Options<'_>,
     source: OrderSource<'_>,
+    aids: aids::Aids<'_>,
 ) -> u8
-    ensures { Performs (S.text_of sources.now) (RatesBy options.now source.entry)
+    ensures { Performs (S.text_of sources.now) (RatesBy options.now source.entry aids.entry)
         (use_of W.contents console.old.writer console.new.writer)
         (λ explain. SaysLine E.contents explain console.old.errors console.new.errors) result }
 {
-    if options.telling.measures {
-        return rate_measured(console, sources, options, source);
+    let effort: Effort<Nobody> = Effort::untold(aids.steps);
+    match aids.bound {
+        Some(name) => rate_beside(console, sources, options, source, effort, name),
+        None => {
+            let aids = Aids {
+                effort,
+                offered: None,
+            };
+            rate_by(console, sources, options, source, aids)
+        }
     }
-    rate_plainly(console, sources, options, source)
+}
+
+// Evaluates them beside the bound of the text of that name.
+fn rate_beside<S: Sources, W: Write, E: Write>(
+    console: &mut Console<W, E>,
+    sources: &S,
+    options: &Options<'_>,
+    source: OrderSource<'_>,
+    effort: Effort<Nobody>,
+    name: &str,
+) -> u8
+    ensures { RatesAided (Some name.entry) (S.text_of sources.now) options.now source.entry
+        (use_of W.contents console.old.writer console.new.writer)
+        (λ explain. SaysLine E.contents explain console.old.errors console.new.errors) result }
+{
+    let explain = options.telling.explain;
+    match open(console, sources, name, MOST_BESIDE, explain) {
+        Ok(mut bound) => rate_offered(console, sources, options, source, effort, &mut bound),
+        Err(status) => status,
+    }
+}
+
+// Evaluates them beside the bound of a text that was opened.
+fn rate_offered<S: Sources, R: Read, W: Write, E: Write>(
+    console: &mut Console<W, E>,
+    sources: &S,
+    options: &Options<'_>,
+    source: OrderSource<'_>,
+    effort: Effort<Nobody>,
+    bound: &mut Counted<Recorded<'_, R>>,
+) -> u8
+    ensures { RatesBeside (S.text_of sources.now) options.now source.entry
+        (use_of (bytes_left R.remaining) bound.old bound.new)
+        (use_of W.contents console.old.writer console.new.writer)
+        (λ explain. SaysLine E.contents explain console.old.errors console.new.errors) result }
+{
+    match bound_read(console.alloc, bound) {
+        Ok(sheet) => {
+            let aids = Aids {
+                effort,
+                offered: Some(sheet),
+            };
+            rate_by(console, sources, options, source, aids)
+        }
+        Err(fault) => report_bound(&fault, &mut console.errors),
+    }
+}
+
+// Evaluates them beside the bound that is offered, if any is.
+fn rate_by<S: Sources, W: Write, E: Write>(
+    console: &mut Console<W, E>,
+    sources: &S,
+    options: &Options<'_>,
+    source: OrderSource<'_>,
+    aids: Aids<Nobody>,
+) -> u8
+    ensures { RatesOrders options.now.telling.measures (S.text_of sources.now) options.now
+        source.entry aids.offered (use_of W.contents console.old.writer console.new.writer)
+        (λ explain. SaysLine E.contents explain console.old.errors console.new.errors) result }
+{
+    if options.telling.measures {
+        return rate_measured(console, sources, options, source, aids);
+    }
+    rate_plainly(console, sources, options, source, aids)
 }
 
 // Evaluates them by the objective of the problem alone.
@@ -51,24 +137,25 @@ fn rate_plainly<S: Sources, W: Write, E: Write>(
     sources: &S,
     options: &Options<'_>,
     source: OrderSource<'_>,
+    aids: Aids<Nobody>,
 ) -> u8
-    ensures { RatesOrders false (S.text_of sources.now) options.now source.entry
+    ensures { RatesOrders false (S.text_of sources.now) options.now source.entry aids.offered
         (use_of W.contents console.old.writer console.new.writer)
         (λ explain. SaysLine E.contents explain console.old.errors console.new.errors) result }
 {
     match source {
-        OrderSource::Given(order) => rate_given(console, sources, options, order),
-        OrderSource::Ruled(rule) => rate_ruled(console, sources, options, rule),
+        OrderSource::Given(order) => rate_given(console, sources, options, order, aids),
+        OrderSource::Ruled(rule) => rate_ruled(console, sources, options, rule, aids),
         OrderSource::Named {
             name,
             goes_on,
             is_numbered,
         } => {
             let form = lines_form(goes_on, is_numbered);
-            rate_named(console, sources, options, name, form)
+            rate_named(console, sources, options, name, form, aids)
         }
         OrderSource::Drawn(name) => {
-            rate_named(console, sources, options, name, OrderForm::Pieces)
+            rate_named(console, sources, options, name, OrderForm::Pieces, aids)
         }
     }
 }
@@ -90,9 +177,10 @@ fn rate_given<S: Sources, W: Write, E: Write>(
     sources: &S,
     options: &Options<'_>,
     order: &str,
+    aids: Aids<Nobody>,
 ) -> u8
     ensures { RatesOrders false (S.text_of sources.now) options.now (OrderSource.Given order.entry)
-        (use_of W.contents console.old.writer console.new.writer)
+        aids.offered (use_of W.contents console.old.writer console.new.writer)
         (λ explain. SaysLine E.contents explain console.old.errors console.new.errors) result }
 {
     let explain = options.telling.explain;
@@ -102,14 +190,12 @@ fn rate_given<S: Sources, W: Write, E: Write>(
             let kept = kept_if(console.alloc, explain, most);
             let order = Recorded::new("--order", order.as_bytes(), most, kept);
             let mut order = Counted::new(order);
-            rate(
-                console,
-                options,
-                OrderForm::Single,
-                None,
-                &mut instance,
-                &mut order,
-            )
+            let rates = Rates {
+                form: OrderForm::Single,
+                aids,
+                others: None,
+            };
+            rate(console, options, rates, &mut instance, &mut order)
         }
         Err(status) => status,
     }
@@ -130,9 +216,10 @@ fn rate_ruled<S: Sources, W: Write, E: Write>(
     sources: &S,
     options: &Options<'_>,
     rule: Rule,
+    aids: Aids<Nobody>,
 ) -> u8
     ensures { RatesOrders false (S.text_of sources.now) options.now (OrderSource.Ruled rule)
-        (use_of W.contents console.old.writer console.new.writer)
+        aids.offered (use_of W.contents console.old.writer console.new.writer)
         (λ explain. SaysLine E.contents explain console.old.errors console.new.errors) result }
 {
     let explain = options.telling.explain;
@@ -140,14 +227,12 @@ fn rate_ruled<S: Sources, W: Write, E: Write>(
         Ok(mut instance) => {
             let kept = kept_if(console.alloc, explain, 0);
             let mut order = Counted::new(Recorded::new("--rule", b"".as_slice(), 0, kept));
-            rate(
-                console,
-                options,
-                OrderForm::Ruled(rule),
-                None,
-                &mut instance,
-                &mut order,
-            )
+            let rates = Rates {
+                form: OrderForm::Ruled(rule),
+                aids,
+                others: None,
+            };
+            rate(console, options, rates, &mut instance, &mut order)
         }
         Err(status) => status,
     }
@@ -160,14 +245,20 @@ fn rate_named<S: Sources, W: Write, E: Write>(
     options: &Options<'_>,
     name: &str,
     form: OrderForm,
+    aids: Aids<Nobody>,
 ) -> u8
-    ensures { RatesNamed (S.text_of sources.now) options.now name.now form
+    ensures { RatesNamed (S.text_of sources.now) options.now name.now form aids.offered
         (use_of W.contents console.old.writer console.new.writer)
         (λ explain. SaysLine E.contents explain console.old.errors console.new.errors) result }
 {
     match open_both(console, sources, options, name) {
         Ok((mut instance, mut orders)) => {
-            rate(console, options, form, None, &mut instance, &mut orders)
+            let rates = Rates {
+                form,
+                aids,
+                others: None,
+            };
+            rate(console, options, rates, &mut instance, &mut orders)
         }
         Err(status) => status,
     }
@@ -179,8 +270,9 @@ fn rate_measured<S: Sources, W: Write, E: Write>(
     sources: &S,
     options: &Options<'_>,
     source: OrderSource<'_>,
+    aids: Aids<Nobody>,
 ) -> u8
-    ensures { RatesMeasured (S.text_of sources.now) options.now source.entry
+    ensures { RatesMeasured (S.text_of sources.now) options.now source.entry aids.offered
         (use_of W.contents console.old.writer console.new.writer)
         (SaysLine E.contents options.now.telling.explain console.old.errors console.new.errors)
         result }
@@ -204,8 +296,12 @@ fn rate_measured<S: Sources, W: Write, E: Write>(
     let kept = kept_if(alloc, explain, orders.len());
     let orders = Recorded::new(source_name(&source), orders.as_slice(), MOST_KEPT, kept);
     let mut orders = Counted::new(orders);
-    let form = source_form(&source);
-    rate(console, options, form, others, &mut instance, &mut orders)
+    let rates = Rates {
+        form: source_form(&source),
+        aids,
+        others,
+    };
+    rate(console, options, rates, &mut instance, &mut orders)
 }
 
 // The text of orders or pieces: that of the command line, nothing for a rule, or that of a name.
@@ -277,12 +373,12 @@ fn others_in(
 fn rate<R: Read, S: Read, W: Write, E: Write>(
     console: &mut Console<W, E>,
     options: &Options<'_>,
-    form: OrderForm,
-    others: Option<PosedInstance>,
+    rates: Rates,
     instance: &mut Counted<Recorded<'_, R>>,
     orders: &mut Counted<Recorded<'_, S>>,
 ) -> u8
-    ensures { EndsRating Global form (requested options.now Layout.Two) others
+    ensures { EndsRating Global rates.form rates.aids.offered (requested options.now Layout.Two)
+        rates.others
         (use_of (bytes_left R.remaining) instance.old instance.new)
         (use_of (bytes_left S.remaining) orders.old orders.new)
         (use_of W.contents console.old.writer console.new.writer)
@@ -293,19 +389,27 @@ fn rate<R: Read, S: Read, W: Write, E: Write>(
     let Ok(request) = options.request(alloc, Layout::Two) else {
         return say_memory(&mut console.errors);
     };
+    let Rates { form, aids, others } = rates;
+    let is_bounded = aids.offered.is_some();
     let asked = OrdersRequest {
         request: &request,
         form,
     };
-    let run = run_orders(alloc, asked, others, instance, orders, &mut console.writer);
+    let explain = options.telling.explain;
+    let measuring = Measuring { aids, others };
+    let run = orders_over(console, explain, asked, measuring, instance, orders);
     let status = end_rating(&run, &mut console.errors);
-    if options.telling.explain {
+    if explain {
         let ended = Ended {
             alloc,
             telling: options.telling,
             request: &request,
         };
-        let rated = Rated { form, run: &run };
+        let rated = Rated {
+            form,
+            is_bounded,
+            run: &run,
+        };
         ended.tell_rated(rated, instance.inner(), orders.inner(), &mut console.errors);
     }
     status

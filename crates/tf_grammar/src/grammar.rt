@@ -103,7 +103,7 @@ static RULES: [&str; 5] = ["EDD", "SPT", "LPT", "WSPT", "ERD"];
 
 static AGAINST_MEASURES: [&str; 1] = ["bound"];
 
-static AGAINST_BOUND: [&str; 5] = ["order", "rule", "orders", "schedule", "certificate"];
+static AGAINST_BOUND: [&str; 1] = ["certificate"];
 
 static AGAINST_ORDER: [&str; 4] = ["rule", "orders", "certificate", "ANSWER"];
 
@@ -264,7 +264,7 @@ fn reported() -> [Row; 7] {
             "Uses the lower bound of FILE where it is stronger",
         )
         .without(AGAINST_BOUND.as_slice()),
-        steps().without(SCHEDULES.as_slice()),
+        steps(),
         json(),
         csv(),
         flag(

@@ -391,7 +391,7 @@ work_for series m k (Plan options layout steps) is = absurd is
 work_for series m k (Trace options style) is = absurd is
 work_for series m k (Check options answer) is = absurd is
 work_for series m k (Assess assessing) is = absurd is
-work_for series m k (Rate options source) is = absurd is
+work_for series m k (Rate options source aids) is = absurd is
 work_for series m k (Gantt answer drawing explain) is = absurd is
 work_for series m k (Picture picturing) is = absurd is
 work_for series m k (Random wanted) is = absurd is
@@ -511,7 +511,7 @@ module _ (series : Series) (m : ℕ) (own answer : List ℕ) (writer : DeviceUse
   ran_has (Trace options style) is done = absurd is
   ran_has (Check options answer) is done = absurd is
   ran_has (Assess assessing) is done = absurd is
-  ran_has (Rate options source) is done = absurd is
+  ran_has (Rate options source aids) is done = absurd is
   ran_has (Gantt answer drawing explain) is done = absurd is
   ran_has (Picture picturing) is done = absurd is
   ran_has (Random wanted) is done = absurd is
@@ -596,7 +596,7 @@ module _ (series : Series) (m : ℕ) (own answer : List ℕ) (writer : DeviceUse
     ran_again (Trace options style) is done = absurd is
     ran_again (Check options answer) is done = absurd is
     ran_again (Assess assessing) is done = absurd is
-    ran_again (Rate options source) is done = absurd is
+    ran_again (Rate options source aids) is done = absurd is
     ran_again (Gantt answer drawing explain) is done = absurd is
     ran_again (Picture picturing) is done = absurd is
     ran_again (Random wanted) is done = absurd is

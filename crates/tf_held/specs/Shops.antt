@@ -103,7 +103,7 @@ abbrev pub evaluated : Asking → Option Options
 evaluated (Plan options layout steps) = Some options
 evaluated (Evaluate evaluating) = Some evaluating.options
 evaluated (Assess assessing) = Some assessing.options
-evaluated (Rate options orders) = Some options
+evaluated (Rate options orders aids) = Some options
 evaluated _ = None
 
 -- the same plan or evaluation with other options
@@ -111,7 +111,7 @@ abbrev pub with_options : Asking → Options → Asking
 with_options (Plan _ layout steps) options = Plan options layout steps
 with_options (Evaluate evaluating) options = Evaluate (record evaluating { options = options })
 with_options (Assess assessing) options = Assess (record assessing { options = options })
-with_options (Rate _ orders) options = Rate options orders
+with_options (Rate _ orders aids) options = Rate options orders aids
 with_options work options = work
 
 abbrev pub asks_count : Option Options → Bool

@@ -143,7 +143,7 @@ fn evaluated<'w, 'a>(work: &'w Work<'a>) -> Option<&'w Options<'a>>
         Work::Plan(options, _, _) => Some(options),
         Work::Evaluate(evaluating) => Some(&evaluating.options),
         Work::Assess(assessing) => Some(&assessing.options),
-        Work::Rate(options, _) => Some(options),
+        Work::Rate(options, _, _) => Some(options),
         _ => None,
     }
 }
@@ -254,7 +254,7 @@ fn work_under<'a>(work: Work<'a>, line: &'a str) -> Work<'a>
             options: under(assessing.options, line),
             ..assessing
         }),
-        Work::Rate(options, orders) => Work::Rate(under(options, line), orders),
+        Work::Rate(options, orders, aids) => Work::Rate(under(options, line), orders, aids),
         other => other,
     }
 }

@@ -16,6 +16,7 @@ use Rattle.tf_options.specs.declared.options.OrderSource.TheVariants.{Given, Rul
 use Rattle.tf_options.specs.declared.options.Options.{Options}
 use Rattle.tf_options.specs.declared.options.Work.{Work}
 use Rattle.tf_options.specs.declared.options.Work.TheVariants as works
+use Rattle.tf_options.specs.declared.aids.Aids.{Aids}
 use Rattle.tf_options.specs.declared.options.Work.TheVariants.{Solve, Trace, Check, Evaluate, Assess, Rate, Gantt, Picture, Random}
 
 -- the value of each option that has one, by the option's name
@@ -82,17 +83,20 @@ border_format MeasuredRows = MeasuredRows
 border_format Summary = Summary
 
 -- orders with the numbers of their lines
-abbrev pub source_in_format : Options → OrderSource → Format → Asked
-source_in_format options (Named name goes_on is_numbered) format =
-    Formatted (Rate options (Named name goes_on true))
+abbrev pub source_in_format : Options → OrderSource → Aids → Format → Asked
+source_in_format options (Named name goes_on is_numbered) aids format =
+    Formatted (Rate options (Named name goes_on true) aids)
     (orders_format format options.telling.measures)
-source_in_format options (Given order) format = Formatted (Rate options (Given order)) format
-source_in_format options (Ruled rule) format = Formatted (Rate options (Ruled rule)) format
-source_in_format options (Drawn name) format = Formatted (Rate options (Drawn name)) format
+source_in_format options (Given order) aids format =
+    Formatted (Rate options (Given order) aids) format
+source_in_format options (Ruled rule) aids format =
+    Formatted (Rate options (Ruled rule) aids) format
+source_in_format options (Drawn name) aids format =
+    Formatted (Rate options (Drawn name) aids) format
 
 -- work is done with its output in this format
 abbrev pub work_in_format : Work → Format → Asked
-work_in_format (Rate options source) format = source_in_format options source format
+work_in_format (Rate options source aids) format = source_in_format options source aids format
 work_in_format works.Border format = Formatted works.Border (border_format format)
 work_in_format (Solve options layout) format = Formatted (Solve options layout) format
 work_in_format (works.Bound options steps) format = Formatted (works.Bound options steps) format

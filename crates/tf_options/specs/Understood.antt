@@ -8,7 +8,7 @@ use Rattle.tf_sequencing.specs.declared.rule.Rule.TheVariants.{Edd, Spt, Lpt, Ws
 use Rattle.tf_options.specs.Matched.{Given, AreOptionsBy, IsFlagBy, IsNumberBy, explains_by, first_fault, has_arithmetic, is_latex, is_word, lacks, lists_bounded, machines_fault, most_steps, number_by, options_fault, steps_fault, unless_some}
 use Rattle.tf_options.specs.Viewing.{IsDrawingBy, IsPicturingBy, gantt_fault}
 use Rattle.tf_options.specs.FormatAsked.{IsSolvedLayoutBy}
-use Rattle.tf_options.specs.declared.options.Aids.{Aids}
+use Rattle.tf_options.specs.declared.aids.Aids.{Aids}
 use Rattle.tf_options.specs.declared.options.Asked.{Asked}
 use Rattle.tf_options.specs.declared.options.Asked.TheVariants.{Work, Unfit, NoMemory}
 use Rattle.tf_options.specs.declared.options.OrderSource.{OrderSource}
@@ -128,10 +128,11 @@ IsWorkBy name given on_terminal (Assess assessing) =
     × (given.value (codes "ANSWER") ≡ Some assessing.answer.now)
     × (given.value (codes "bound") ≡ Some assessing.bound.now)
     × IsNumberBy 1 most_steps (given.value (codes "steps")) assessing.steps
-IsWorkBy name given on_terminal (Rate options orders) =
+IsWorkBy name given on_terminal (Rate options orders aids) =
     (name ≡ codes "evaluate")
     × AreOptionsBy given on_terminal options
     × IsOrderBy given orders
+    × AreAidsBy given aids
 IsWorkBy name given on_terminal (Gantt answer drawing explain) =
     (name ≡ codes "gantt")
     × (given.value (codes "input") ≡ None)
@@ -205,12 +206,25 @@ abbrev pub orders_fault : Given → Option (List ℕ)
 orders_fault given =
     if is_word (given.value (codes "INPUT")) (codes "-") then named_fault given else None
 
+-- the text of a bound is standard input, and so is that of the instance, or of the orders or the pieces
+abbrev pub beside_fault : Given → Option (List ℕ)
+beside_fault given =
+    if is_standard_input given (codes "bound")
+    && (is_standard_input given (codes "INPUT") || is_some (named_fault given))
+    then Some (codes "--bound and another text cannot both be standard input")
+    else None
+
+-- the fault of what orders or pieces are evaluated by: one of these, or the steps of the search for prices
+abbrev pub rating_fault : Given → Option (List ℕ)
+rating_fault given =
+    first_fault (orders_fault given) (first_fault (beside_fault given) (steps_fault given))
+
 -- the fault of a command's values that is told first
 abbrev pub own_fault : List ℕ → Given → Option (List ℕ)
 own_fault name given =
     if has_steps name then steps_fault given
     else (if has_no_answer name then None
-    else (if is_rating name given then orders_fault given
+    else (if is_rating name given then rating_fault given
     else first_fault (answer_fault given) (evaluating_fault name given)))
 
 abbrev pub fault_by : List ℕ → Given → Option (List ℕ)

@@ -4,6 +4,7 @@ ghost use Rattle.tf_options.specs.Columns.{HasColumns, IsSized};
 ghost use Rattle.tf_options.specs.FormatAsked.{border_format, orders_format, source_in_format};
 ghost use Rattle.tf_options.specs.FormatAsked.{work_in_format};
 
+use crate::aids::Aids;
 use crate::format::Format;
 use crate::options::{Asked, Options, OrderSource, Work};
 use tf_export::documents::Document;
@@ -16,16 +17,21 @@ pub(crate) fn work_in_format(work: Work<'_>, format: Format) -> Asked<'_>
     ensures format { result ≡ work_in_format work.entry format }
 {
     match work {
-        Work::Rate(options, source) => source_in_format(options, source, format),
+        Work::Rate(options, source, aids) => source_in_format(options, source, aids, format),
         Work::Border => Asked::Formatted(Work::Border, border_format(format)),
         other => Asked::Formatted(other, format),
     }
 }
 
 // Evaluations of orders or pieces with their output in this format.
-fn source_in_format<'a>(options: Options<'a>, source: OrderSource<'a>, format: Format) -> Asked<'a>
+fn source_in_format<'a>(
+    options: Options<'a>,
+    source: OrderSource<'a>,
+    aids: Aids<'a>,
+    format: Format,
+) -> Asked<'a>
     ensures columns { HasColumns result }
-    ensures format { result ≡ source_in_format options.entry source.entry format }
+    ensures format { result ≡ source_in_format options.entry source.entry aids.entry format }
 {
     match source {
         OrderSource::Named { name, goes_on, .. } => {
@@ -35,9 +41,9 @@ fn source_in_format<'a>(options: Options<'a>, source: OrderSource<'a>, format: F
                 is_numbered: true,
             };
             let format = orders_format(format, options.telling.measures);
-            Asked::Formatted(Work::Rate(options, orders), format)
+            Asked::Formatted(Work::Rate(options, orders, aids), format)
         }
-        other => Asked::Formatted(Work::Rate(options, other), format),
+        other => Asked::Formatted(Work::Rate(options, other, aids), format),
     }
 }
 

@@ -2,6 +2,7 @@
 //! of them mean.
 #![tactic(auto)]
 
+pub mod aids;
 pub mod command_line;
 pub mod format;
 mod formatting;

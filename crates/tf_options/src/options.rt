@@ -1,6 +1,6 @@
 //! The command line.
 ghost use Rattle.std.specs.Prelude.{◌≡◌, ◌≤◌, None, Some, false, codes};
-ghost use Rattle.std.specs.Prelude.{option_map, IfOk, IfErr, IsTrue, MatchOption};
+ghost use Rattle.std.specs.Prelude.{IfOk, IfErr, IsTrue, MatchOption};
 ghost use Rattle.tf_engine.specs.FormData.{form_of};
 ghost use Rattle.tf_model.specs.Limit.{most_machines};
 ghost use Rattle.tf_options.specs.Asking.{form_asked, requested};
@@ -16,11 +16,11 @@ ghost use Rattle.tf_options.specs.Matched.{machines_fault, most_steps, options_f
 ghost use Rattle.tf_options.specs.Matched.{number_by, steps_fault, wt_fault};
 ghost use Rattle.tf_options.specs.OptionNumber.{numeral_in};
 ghost use Rattle.tf_options.specs.Understanding.{IsFormattedBy, IsMeasuredList, IsUnderstoodBy};
-ghost use Rattle.tf_options.specs.Understood.{AreAidsBy, HasNoOrder, IsAskedBy, IsOrderBy, IsWorkBy};
-ghost use Rattle.tf_options.specs.Understood.{aids_fault, fault_by, input_fault, is_incomplete};
-ghost use Rattle.tf_options.specs.Understood.{is_standard_input, lacks_options, lacks_own, own_fault};
-ghost use Rattle.tf_options.specs.Understood.{rule_by};
+ghost use Rattle.tf_options.specs.Understood.{HasNoOrder, IsAskedBy, IsOrderBy, IsWorkBy};
+ghost use Rattle.tf_options.specs.Understood.{fault_by, is_incomplete};
+ghost use Rattle.tf_options.specs.Understood.{lacks_options, lacks_own, own_fault, rule_by};
 
+use crate::aids::{Aids, aids_in, rating_aids_in};
 use crate::format::Format;
 use crate::formatting::work_in_format;
 use crate::series::{Series, series_asked, span_for};
@@ -163,15 +163,6 @@ pub struct Assessing<'a> {
     pub steps: Option<u32>,
 }
 
-// What an answer is evaluated by, where the problem has no solver.
-#[derive(Clone, Copy)]
-struct Aids<'a> {
-    // The name of the text of a bound.
-    bound: Option<&'a str>,
-    // The steps of the search for prices.
-    steps: Option<u32>,
-}
-
 /// Where the orders of jobs or the pieces come from whose schedules are evaluated.
 #[derive(Clone, Copy, Debug)]
 pub enum OrderSource<'a> {
@@ -230,7 +221,7 @@ pub enum Work<'a> {
     /// Tell how good an answer is by lower bounds, of which a text offers one.
     Assess(Assessing<'a>),
     /// Tell how good the semi-active schedules of orders are, or a schedule.
-    Rate(Options<'a>, OrderSource<'a>),
+    Rate(Options<'a>, OrderSource<'a>, Aids<'a>),
     /// Draw the answer of this name.
     Gantt {
         answer: &'a str,
@@ -443,12 +434,8 @@ fn work_over<'a>(
     if name == "evaluate"
         && let Some(orders) = orders_in(given)
     {
-        if options.input == "-"
-            && let Some(fault) = input_fault(&orders)
-        {
-            return Err(Wrong::Unfit(fault));
-        }
-        return Ok(Work::Rate(options, orders));
+        let aids = rating_aids_in(given, &orders)?;
+        return Ok(Work::Rate(options, orders, aids));
     }
     let Some(answer) = given.get_str("ANSWER") else {
         return Err(Wrong::Missing);
@@ -578,48 +565,6 @@ fn rule_by(name: &str) -> Rule
         return Rule::Wspt;
     }
     Rule::Erd
-}
-
-// The fault of a text of orders or pieces that is standard input, where the instance is that too.
-fn input_fault(orders: &OrderSource<'_>) -> Option<&'static str>
-    ensures { option_map (λ fault. fault.now) result ≡ input_fault orders.now }
-{
-    match orders {
-        OrderSource::Named { name, .. } if *name == "-" => {
-            Some("INPUT and --orders cannot both be standard input")
-        }
-        OrderSource::Drawn(name) if *name == "-" => {
-            Some("INPUT and --schedule cannot both be standard input")
-        }
-        _ => None,
-    }
-}
-
-// The text of a bound and the steps of the search for prices, where they are given. The instance
-// and the answer cannot be standard input beside the text.
-fn aids_in<'a>(given: &ArgMatches<'a>) -> Result<Aids<'a>, Wrong>
-    ensures given { IfOk result (AreAidsBy (given_of given.now)) }
-    ensures fault { IfErr result (IsToldInstead false (aids_fault (given_of given.now))) }
-{
-    if is_standard_input(given, "bound")
-        && (is_standard_input(given, "ANSWER") || is_standard_input(given, "INPUT"))
-    {
-        return Err(Wrong::Unfit("--bound and INPUT or ANSWER cannot both be standard input"));
-    }
-    Ok(Aids {
-        bound: given.get_str("bound"),
-        steps: steps_in(given)?,
-    })
-}
-
-// Whether the text that is named so is standard input.
-pub(crate) fn is_standard_input(given: &ArgMatches<'_>, name: &str) -> bool
-    ensures { result ≡ is_standard_input (given_of given.now) name.now }
-{
-    match given.get_str(name) {
-        Some(word) => word == "-",
-        None => false,
-    }
 }
 
 // How much is reported of an answer: the certificate's arithmetic where it is asked for.

@@ -7,9 +7,8 @@ ghost use Rattle.tf_options.specs.SeriesAsked.{IsSeriesAsked, IsSeriesBy, IsTold
 ghost use Rattle.tf_options.specs.SeriesAsked.{jobs_fault, lacks_names, series_fault, span_between};
 ghost use Rattle.tf_options.specs.SeriesAsked.{span_for, span_in, span_of, takes_span, told_fault};
 
-use crate::options::{
-    Asked, is_explained, is_standard_input, machines_in, number_within, steps_in,
-};
+use crate::aids::is_standard_input;
+use crate::options::{Asked, is_explained, machines_in, number_within, steps_in};
 use crate::wrong::Wrong;
 use clap::ArgMatches;
 use tf_model::limit::MOST_JOBS;

@@ -15,11 +15,11 @@ use Rattle.tf_engine.specs.RequestData.{RequestData}
 use Rattle.tf_engine.proofs.CaseRead.{refusal_first}
 use Rattle.tf_engine.proofs.Devices.{instance_later}
 use Rattle.tf_engine.proofs.Unread.{text_for, long_text_for}
-use Rattle.tf_assess.specs.RunRating.{is_solved}
 use Rattle.tf_assess.proofs.Reading.{bound_first, stops_as}
 use Rattle.tf_orders.specs.declared.case_read.OrderCase.{OrderCase}
 use Rattle.tf_orders.specs.declared.case_read.Posed.{Posed}
 use Rattle.tf_orders.specs.declared.case_read.Posed.TheVariants.{Solved, Unsolved}
+use Rattle.tf_orders.specs.Measuring.{is_by_optimum}
 use Rattle.tf_orders.specs.OrderParts.{Means, ReadsPosed, IsLong, ReadsOrders, IsRefusedCase, ReadsOrderCase}
 use Rattle.tf_orders.specs.RunOrders.{IsPosed, IsRefusedInstance, HasOrderReaderFailed}
 
@@ -95,20 +95,20 @@ module _ (A T : Type 0) (remaining : T → Option (List ℕ)) (old new : Counted
 
 -- ---- both
 
-refused_first : (request : RequestData) (text : List ℕ) (refused : Refused) (b : Bool)
-    → is_solved request.problem ≡ b → IsRefusedInstance request text refused
+refused_first : (bounded : Bool) (request : RequestData) (text : List ℕ) (refused : Refused) (b : Bool)
+    → is_by_optimum bounded request.problem ≡ b → IsRefusedInstance bounded request text refused
     → is_on_answer (Refuses refused) ≡ false
-refused_first request text refused true solved h =
+refused_first bounded request text refused true solved h =
     (refusal_first request text refused (h.solved solved)).0
-refused_first request text refused false unsolved h =
+refused_first bounded request text refused false unsolved h =
     bound_first request text refused (h.unsolved unsolved)
 
-instance_first : (request : RequestData) (text : List ℕ) (R : Type 0) (s : Stop)
-    → StopsReading (IsRefusedInstance request text) R s → is_on_answer s ≡ false
-instance_first request text R Fails h = refl
-instance_first request text R Wants h = refl
-instance_first request text R (Refuses refused) h =
-    refused_first request text refused (is_solved request.problem) refl h
+instance_first : (bounded : Bool) (request : RequestData) (text : List ℕ) (R : Type 0) (s : Stop)
+    → StopsReading (IsRefusedInstance bounded request text) R s → is_on_answer s ≡ false
+instance_first bounded request text R Fails h = refl
+instance_first bounded request text R Wants h = refl
+instance_first bounded request text R (Refuses refused) h =
+    refused_first bounded request text refused (is_by_optimum bounded request.problem) refl h
 
 orders_last : (text : List ℕ) (R : Type 0) (s : Stop) → StopsReading (IsLong text) R s
     → is_on_instance s ≡ false
@@ -116,22 +116,22 @@ orders_last text R Fails h = refl
 orders_last text R Wants h = refl
 orders_last text R (Refuses refused) (is, long) = rw is refl
 
-is_posed : {A : Type 0} (request : RequestData) (text : List ℕ) (posed : Posed A)
-    → Means request text posed → IsPosed request text
-is_posed request text (Solved asked) (solved, is) = record {
+is_posed : {A : Type 0} (bounded : Bool) (request : RequestData) (text : List ℕ) (posed : Posed A)
+    → Means bounded request text posed → IsPosed bounded request text
+is_posed bounded request text (Solved asked) (solved, is) = record {
   solved = λ holds. rw is.meant refl;
-  unsolved = λ fails. absurd (never (is_solved request.problem) solved fails);
+  unsolved = λ fails. absurd (never (is_by_optimum bounded request.problem) solved fails);
 }
-is_posed request text (Unsolved task) (unsolved, is) = record {
-  solved = λ holds. absurd (never (is_solved request.problem) holds unsolved);
+is_posed bounded request text (Unsolved task) (unsolved, is) = record {
+  solved = λ holds. absurd (never (is_by_optimum bounded request.problem) holds unsolved);
   unsolved = λ fails. rw is refl;
 }
 
-module _ (A T U : Type 0) (request : RequestData) (remaining : T → Option (List ℕ))
-    (old new : Counted T) (giving : U → Option (List ℕ)) (before : Counted U) where
+module _ (A T U : Type 0) (bounded : Bool) (request : RequestData)
+    (remaining : T → Option (List ℕ)) (old new : Counted T) (giving : U → Option (List ℕ)) (before : Counted U) where
   -- no task was read
-  pub case_unposed : (e : RunFault A) → ReadsPosed request remaining old new (Err e)
-      → ReadsOrderCase request remaining old new giving before before (Err e)
+  pub case_unposed : (e : RunFault A) → ReadsPosed bounded request remaining old new (Err e)
+      → ReadsOrderCase bounded request remaining old new giving before before (Err e)
   case_unposed e had =
       let (orders, is_orders) = text_for (giving (inner_of before)) in
       record {
@@ -139,35 +139,35 @@ module _ (A T U : Type 0) (request : RequestData) (remaining : T → Option (Lis
         is_all = had.is_all;
         orders_text = orders;
         is_whole = is_orders;
-        given = stops_as (IsRefusedInstance request had.text)
-            (IsRefusedCase request had.text orders) (has_failed new ≡ true)
-            (HasOrderReaderFailed request had.text (use_of remaining old new)
+        given = stops_as (IsRefusedInstance bounded request had.text)
+            (IsRefusedCase bounded request had.text orders) (has_failed new ≡ true)
+            (HasOrderReaderFailed bounded request had.text (use_of remaining old new)
             (use_of giving before before))
             (λ refused h. inl h) (λ failed. inl failed) (stop_of e) had.given;
         readers = record {
           instance = had.reader;
           answer = inl (
             refl,
-            instance_first request had.text (has_failed new ≡ true) (stop_of e) had.given,
+            instance_first bounded request had.text (has_failed new ≡ true) (stop_of e) had.given,
           );
         };
       }
 
   module _ (after : Counted U) (posed : Posed A)
-      (had : ReadsPosed request remaining old new (Ok posed)) where
+      (had : ReadsPosed bounded request remaining old new (Ok posed)) where
     -- the orders were not read
     pub case_unread : (e : RunFault A) → ReadsOrders {A = A} giving before after (Err e)
-        → ReadsOrderCase request remaining old new giving before after (Err e)
+        → ReadsOrderCase bounded request remaining old new giving before after (Err e)
     case_unread e read =
-        let posed_is = is_posed request had.text posed had.given in
+        let posed_is = is_posed bounded request had.text posed had.given in
         record {
           text = had.text;
           is_all = had.is_all;
           orders_text = read.text;
           is_whole = read.is_all;
-          given = stops_as (IsLong read.text) (IsRefusedCase request had.text read.text)
+          given = stops_as (IsLong read.text) (IsRefusedCase bounded request had.text read.text)
               (has_failed after ≡ true)
-              (HasOrderReaderFailed request had.text (use_of remaining old new)
+              (HasOrderReaderFailed bounded request had.text (use_of remaining old new)
               (use_of giving before after))
               (λ refused h. inr (record { posed = posed_is; is = h.0; long = h.1 }))
               (λ failed. inr (posed_is, failed)) (stop_of e) read.given;
@@ -183,14 +183,14 @@ module _ (A T U : Type 0) (request : RequestData) (remaining : T → Option (Lis
     -- both texts were read
     pub case_had : (case : OrderCase A) → case.posed ≡ posed
         → ReadsOrders {A = A} giving before after (Ok case.text)
-        → ReadsOrderCase request remaining old new giving before after (Ok case)
+        → ReadsOrderCase bounded request remaining old new giving before after (Ok case)
     case_had case same read = record {
       text = had.text;
       is_all = had.is_all;
       orders_text = read.text;
       is_whole = read.is_all;
       given = record {
-        means = subst (Means request had.text) (sym same) had.given;
+        means = subst (Means bounded request had.text) (sym same) had.given;
         text_is = read.given.0;
         short = subst (λ (bytes : List ℕ). length bytes ≤ most_bytes) read.given.0 read.given.1;
       };

@@ -1,5 +1,5 @@
 -- Runs over orders, from what was read on.
-use Rattle.std.proofs.Common.{◌≡◌, ℕ, ◌≤◌, List, Option, None, Bool, true, false, Ok, Err, length, refl, sym, subst, ap, ◌∙◌, inl, inr}
+use Rattle.std.proofs.Common.{◌≡◌, ℕ, ◌≤◌, List, Option, None, is_some, Bool, true, false, Result, Ok, Err, length, refl, sym, subst, ap, ◌∙◌, inl, inr}
 use Rattle.std.specs.Io.KnownBytes.{Appends}
 use Rattle.tf_model.specs.Limit.{most_bytes}
 use Rattle.tf_text.specs.declared.counted.Counted.{Counted}
@@ -16,6 +16,7 @@ use Rattle.tf_orders.specs.declared.measure.Measure.{Measure}
 use Rattle.tf_orders.specs.declared.run_orders.OrderForm.{OrderForm}
 use Rattle.tf_orders.specs.declared.run_orders.OrdersRated.{OrdersRated}
 use Rattle.tf_assess.specs.Measures.{PosedData}
+use Rattle.tf_bound_text.specs.BoundSheetData.{BoundSheetData}
 use Rattle.tf_orders.specs.Measuring.{IsMeasure, others_of}
 use Rattle.tf_orders.specs.OrderText.{AreRated}
 use Rattle.tf_orders.specs.OrderParts.{Means, Measures, IsCycleOf, IsUnmeasured, IsUnrated, IsRefusedCase, ReadsOrderCase, with_others}
@@ -35,69 +36,86 @@ unrated_later form m text Fails h = absurd h
 unrated_later form m text Wants h = refl
 
 -- the measure of what is asked for
-pub measure_is : {A : Type 0} (request : RequestData) (others : Option PosedData) (text : List ℕ)
-    (posed : Posed A) (m : Measure A) → Means request text posed → Measures others posed m
-    → IsMeasure request text m
-measure_is request others text (Solved asked) m (solved, is) (best, same, least) =
-    subst (IsMeasure request text) (sym same) (solved, is.problem, is.meant, least)
-measure_is request others text (Unsolved task) m (unsolved, meant) (found, same, feasible, bound) =
-    subst (IsMeasure request text) (sym same) (unsolved, meant, feasible, bound)
+pub measure_is : {A : Type 0} (offer : Option BoundSheetData) (request : RequestData)
+    (others : Option PosedData) (text : List ℕ) (posed : Posed A) (m : Measure A)
+    → Means (is_some offer) request text posed → Measures offer others posed m
+    → IsMeasure offer request text m
+measure_is offer request others text (Solved asked) m (solved, is) (best, same, least) =
+    subst (IsMeasure offer request text) (sym same) (solved, is.problem, is.meant, least)
+measure_is offer request others text (Unsolved task) m (unsolved, meant)
+    (weighed, same, feasible, bound) =
+    subst (IsMeasure offer request text) (sym same) (unsolved, meant, feasible, bound)
 
-pub measures_with : {A : Type 0} (others : Option PosedData) (posed : Posed A) (m n : Measure A)
-    → Measures None posed m → n ≡ with_others m others → Measures others posed n
-measures_with others (Solved asked) m n (best, same, least) is =
+pub measures_with : {A : Type 0} (offer : Option BoundSheetData) (others : Option PosedData)
+    (posed : Posed A) (m n : Measure A)
+    → Measures offer None posed m → n ≡ with_others m others → Measures offer others posed n
+measures_with offer others (Solved asked) m n (best, same, least) is =
     (best, is ∙ ap (λ m. with_others m others) same, least)
-measures_with others (Unsolved task) m n (found, same, feasible, bound) is =
-    (found, is ∙ ap (λ m. with_others m others) same, feasible, bound)
+measures_with offer others (Unsolved task) m n (weighed, same, feasible, bound) is =
+    (weighed, is ∙ ap (λ m. with_others m others) same, feasible, bound)
 
 -- with the instance that was given for the other objectives
-pub others_are : {A : Type 0} (others : Option PosedData) (posed : Posed A) (m : Measure A)
-    → Measures others posed m → others_of m ≡ others
-others_are others (Solved asked) m (best, same, least) = ap others_of same
-others_are others (Unsolved task) m (found, same, feasible, bound) = ap others_of same
+pub others_are : {A : Type 0} (offer : Option BoundSheetData) (others : Option PosedData)
+    (posed : Posed A) (m : Measure A) → Measures offer others posed m → others_of m ≡ others
+others_are offer others (Solved asked) m (best, same, least) = ap others_of same
+others_are offer others (Unsolved task) m (weighed, same, feasible, bound) =
+    ap others_of same
 
-cyclic : {A : Type 0} (form : OrderForm) (request : RequestData) (text orders jobs : List ℕ)
-    (refused : Refused) (posed : Posed A) → Means request text posed → refused ≡ ByCycle jobs
-    → IsCycleOf posed jobs → IsRefusedOrders A form request text orders refused
-cyclic form request text orders jobs refused (Solved asked) (solved, meant) is cycle =
+cyclic : {A : Type 0} (form : OrderForm) (offer : Option BoundSheetData) (request : RequestData)
+    (text orders jobs : List ℕ) (refused : Refused) (posed : Posed A)
+    → Means (is_some offer) request text posed → refused ≡ ByCycle jobs
+    → IsCycleOf posed jobs → IsRefusedOrders A form offer request text orders refused
+cyclic form offer request text orders jobs refused (Solved asked) (solved, meant) is cycle =
     inr (inr (inl (
       jobs,
       is,
       record { task = asked.task; meant = meant.meant; cycle = cycle },
     )))
-cyclic form request text orders jobs refused (Unsolved task) (unsolved, meant) is cycle =
+cyclic form offer request text orders jobs refused (Unsolved task) (unsolved, meant) is cycle =
     inr (inr (inr (inl (task, meant, (jobs, is, cycle)))))
 
-module _ (A T U : Type 0) (form : OrderForm) (request : RequestData) (others : Option PosedData)
-    (remaining : T → Option (List ℕ)) (old new : Counted T) (giving : U → Option (List ℕ))
+-- what was read, by whether a bound is offered
+pub by_offer : {A T U : Type 0} {request : RequestData} {remaining : T → Option (List ℕ)}
+    {old new : Counted T} {giving : U → Option (List ℕ)} {before after : Counted U}
+    {result : Result (OrderCase A) (RunFault A)} (offer : Option BoundSheetData) (bounded : Bool)
+    → bounded ≡ is_some offer
+    → ReadsOrderCase bounded request remaining old new giving before after result
+    → ReadsOrderCase (is_some offer) request remaining old new giving before after result
+by_offer {request = request} {remaining = remaining} {old = old} {new = new} {giving = giving}
+    {before = before} {after = after} {result = result} offer bounded same had =
+    subst (λ (b : Bool). ReadsOrderCase b request remaining old new giving before after result) same
+    had
+
+module _ (A T U : Type 0) (form : OrderForm) (offer : Option BoundSheetData)
+    (request : RequestData) (others : Option PosedData) (remaining : T → Option (List ℕ)) (old new : Counted T) (giving : U → Option (List ℕ))
     (before after : Counted U) where
   -- nothing was written where no case was read
   pub unread : (held : Option (List ℕ)) (writer : Bool) (e : RunFault A)
-      → ReadsOrderCase request remaining old new giving before after (Err e)
-      → IsOrdersRunOf form request others (use_of remaining old new) (use_of giving before after)
+      → ReadsOrderCase (is_some offer) request remaining old new giving before after (Err e)
+      → IsOrdersRunOf form offer request others (use_of remaining old new) (use_of giving before after)
       (unused held writer) (Err e)
   unread held writer e had = record {
     text = had.text;
     is_all = had.is_all;
     orders_text = had.orders_text;
     is_whole = had.is_whole;
-    outcome = reading_stops (SaysRated A form request others had.text had.orders_text)
-        (IsRefusedCase request had.text had.orders_text)
-        (IsRefusedOrders A form request had.text had.orders_text)
-        (HasOrderReaderFailed request had.text (use_of remaining old new)
+    outcome = reading_stops (SaysRated A form offer request others had.text had.orders_text)
+        (IsRefusedCase (is_some offer) request had.text had.orders_text)
+        (IsRefusedOrders A form offer request had.text had.orders_text)
+        (HasOrderReaderFailed (is_some offer) request had.text (use_of remaining old new)
         (use_of giving before after))
-        (HasOrderReaderFailed request had.text (use_of remaining old new)
+        (HasOrderReaderFailed (is_some offer) request had.text (use_of remaining old new)
         (use_of giving before after))
         held writer case_refused (λ failed. failed) (stop_of e) had.given;
   }
     where
-      case_refused : (refused : Refused) → IsRefusedCase request had.text had.orders_text refused
-          → IsRefusedOrders A form request had.text had.orders_text refused
+      case_refused : (refused : Refused) → IsRefusedCase (is_some offer) request had.text had.orders_text refused
+          → IsRefusedOrders A form offer request had.text had.orders_text refused
       case_refused refused (inl instance) = inl instance
       case_refused refused (inr long) = inr (inl long)
 
   module _ (case : OrderCase A)
-      (had : ReadsOrderCase request remaining old new giving before after (Ok case)) where
+      (had : ReadsOrderCase (is_some offer) request remaining old new giving before after (Ok case)) where
     pub short_text : (bytes : List ℕ) → bytes ≡ case.text.items → length bytes ≤ most_bytes
     short_text bytes same =
         subst (λ (bs : List ℕ). length bs ≤ most_bytes) (sym (same ∙ had.given.text_is)) had.given.short
@@ -105,28 +123,28 @@ module _ (A T U : Type 0) (form : OrderForm) (request : RequestData) (others : O
     -- nor where there is no measure
     pub unmeasured : (held : Option (List ℕ)) (writer : Bool) (e : RunFault A)
         → IsUnmeasured case.posed (stop_of e)
-        → IsOrdersRunOf form request others (use_of remaining old new) (use_of giving before after)
+        → IsOrdersRunOf form offer request others (use_of remaining old new) (use_of giving before after)
         (unused held writer) (Err e)
     unmeasured held writer e h = record {
       text = had.text;
       is_all = had.is_all;
       orders_text = had.orders_text;
       is_whole = had.is_whole;
-      outcome = part_stops (SaysRated A form request others had.text had.orders_text)
+      outcome = part_stops (SaysRated A form offer request others had.text had.orders_text)
           (λ refused. (jobs : List ℕ) × (refused ≡ ByCycle jobs) × IsCycleOf case.posed jobs)
-          (IsRefusedOrders A form request had.text had.orders_text)
-          (HasOrderReaderFailed request had.text (use_of remaining old new)
+          (IsRefusedOrders A form offer request had.text had.orders_text)
+          (HasOrderReaderFailed (is_some offer) request had.text (use_of remaining old new)
           (use_of giving before after))
           held writer
-          (λ refused r. cyclic form request had.text had.orders_text r.0 refused case.posed
+          (λ refused r. cyclic form offer request had.text had.orders_text r.0 refused case.posed
           had.given.means r.1 r.2)
           (stop_of e) h;
     }
 
-    module _ (m : Measure A) (measures : Measures others case.posed m) (bytes : List ℕ)
+    module _ (m : Measure A) (measures : Measures offer others case.posed m) (bytes : List ℕ)
         (same : bytes ≡ case.text.items) where
-      is_measure : IsMeasure request had.text m
-      is_measure = measure_is request others had.text case.posed m had.given.means measures
+      is_measure : IsMeasure offer request had.text m
+      is_measure = measure_is offer request others had.text case.posed m had.given.means measures
 
       whole : bytes ≡ had.orders_text
       whole = same ∙ had.given.text_is
@@ -134,16 +152,16 @@ module _ (A T U : Type 0) (form : OrderForm) (request : RequestData) (others : O
       -- nor where a line is malformed
       pub unrated : (held : Option (List ℕ)) (writer : Bool) (e : RunFault A)
           → IsUnrated form m bytes (stop_of e)
-          → IsOrdersRunOf form request others (use_of remaining old new) (use_of giving before after)
+          → IsOrdersRunOf form offer request others (use_of remaining old new) (use_of giving before after)
           (unused held writer) (Err e)
       unrated held writer e h = record {
         text = had.text;
         is_all = had.is_all;
         orders_text = had.orders_text;
         is_whole = had.is_whole;
-        outcome = part_stops (SaysRated A form request others had.text had.orders_text) _
-            (IsRefusedOrders A form request had.text had.orders_text)
-            (HasOrderReaderFailed request had.text (use_of remaining old new)
+        outcome = part_stops (SaysRated A form offer request others had.text had.orders_text) _
+            (IsRefusedOrders A form offer request had.text had.orders_text)
+            (HasOrderReaderFailed (is_some offer) request had.text (use_of remaining old new)
             (use_of giving before after))
             held writer
             (λ refused r. inr (inr (inr (inr (
@@ -155,16 +173,16 @@ module _ (A T U : Type 0) (form : OrderForm) (request : RequestData) (others : O
 
       module _ (out : List ℕ) (rated : OrdersRated) (are : AreRated form m bytes out rated)
           (writer : DeviceUse) where
-        is_rated : IsRated form request others had.text had.orders_text out rated m
+        is_rated : IsRated form offer request others had.text had.orders_text out rated m
         is_rated = record {
           measure = is_measure;
-          others_are = others_are others case.posed m measures;
+          others_are = others_are offer others case.posed m measures;
           rated_is = subst (λ (bs : List ℕ). AreRated form m bs out rated) whole are;
         }
 
         -- a prefix was written where the writer failed
         pub cut_off : writer.failed ≡ true → AppendsPrefix writer.before writer.after out
-            → IsOrdersRunOf {A = A} form request others (use_of remaining old new)
+            → IsOrdersRunOf {A = A} form offer request others (use_of remaining old new)
             (use_of giving before after) writer (Err Device)
         cut_off failed prefix = record {
           text = had.text;
@@ -176,7 +194,7 @@ module _ (A T U : Type 0) (form : OrderForm) (request : RequestData) (others : O
 
         -- all of it was written
         pub wrote_all : Appends writer.before writer.after out
-            → IsOrdersRunOf {A = A} form request others (use_of remaining old new)
+            → IsOrdersRunOf {A = A} form offer request others (use_of remaining old new)
             (use_of giving before after) writer (Ok rated)
         wrote_all written = record {
           text = had.text;

@@ -1,13 +1,17 @@
 -- What the schedules of orders are measured by: in a class the optimum, and otherwise the strongest
--- lower bound that is found.
-use Rattle.std.specs.Prelude.{◌≡◌, ◌⊎◌, ℕ, List, length, IsTrue, IsFalse, Ok, Option}
+-- lower bound that is found. Where the text of a bound is offered, that is a lower bound in a class too,
+-- and no weaker one than the one that is offered.
+use Rattle.std.specs.Prelude.{◌≡◌, ◌⊎◌, ℕ, Bool, false, List, length, IsTrue, IsFalse, is_some, Result, Ok, Option, if◌then◌else◌}
 use Rattle.tf_engine.specs.RequestData.{RequestData}
+use Rattle.tf_engine.specs.Faults.{Refused}
 use Rattle.tf_engine.specs.Refusal.{problem_for, task_for}
+use Rattle.tf_model.specs.declared.problem.Problem.{Problem}
 use Rattle.tf_plan.specs.Order.{IsFeasible}
 use Rattle.tf_problem.specs.ProblemData.{ProblemData, is_job_shop}
-use Rattle.tf_search.specs.Strongest.{IsFound}
-use Rattle.tf_bounding.specs.RunBounding.{problem_task_for}
+use Rattle.tf_bounding.specs.RunBounding.{problem_in, problem_task_for}
+use Rattle.tf_bound_text.specs.BoundSheetData.{BoundSheetData}
 use Rattle.tf_evaluate.specs.Evaluating.{IsLeastCost}
+use Rattle.tf_assess.specs.Assessing.{IsWeighed}
 use Rattle.tf_assess.specs.RunRating.{is_solved}
 use Rattle.tf_assess.specs.Measures.{PosedData}
 use Rattle.tf_schedule.specs.declared.piece.Piece.{Piece}
@@ -19,34 +23,44 @@ use Rattle.tf_orders.specs.Orders.{IsFlaw, IsOrder, IsNoOrder}
 use Rattle.tf_orders.specs.Laying.{schedule_of, orders_of, problem_schedule_of, problem_orders_of}
 use Rattle.tf_orders.specs.Operations.{IsOperationFlaw, IsOperationOrder, IsNoOperationOrder, operation_schedule_of}
 
+-- schedules are measured by the optimum: the problem of the line is of a class, and no bound is offered
+abbrev pub is_by_optimum : Bool → List ℕ → Bool
+is_by_optimum bounded text = if bounded then false else is_solved text
+
+-- the problem of the line: by a solver or by its lower bounds
+abbrev pub measured_problem : Bool → List ℕ → Result Problem Refused
+measured_problem bounded text =
+    if is_by_optimum bounded text then problem_for text else problem_in text
+
 -- the request and the instance text mean a task, and this is its optimum or a lower bound
-abbrev pub IsMeasure : {A : Type 0} → RequestData → List ℕ → Measure A → Type 0
-IsMeasure request text (Optimum problem task best others) =
-    IsTrue (is_solved request.problem) × (problem_for request.problem ≡ Ok problem)
+abbrev pub IsMeasure : {A : Type 0} → Option BoundSheetData → RequestData → List ℕ → Measure A → Type 0
+IsMeasure offer request text (Optimum problem task best others) =
+    IsTrue (is_by_optimum (is_some offer) request.problem) × (problem_for request.problem ≡ Ok problem)
     × (task_for request text ≡ Ok task) × IsLeastCost task best
-IsMeasure request text (Bound task found others) =
-    IsFalse (is_solved request.problem) × (problem_task_for request text ≡ Ok task)
-    × IsFeasible task × IsFound task found
+IsMeasure offer request text (Bound task weighed others) =
+    IsFalse (is_by_optimum (is_some offer) request.problem)
+    × (problem_task_for request text ≡ Ok task)
+    × IsFeasible task × IsWeighed task offer weighed
 
 -- the instance by which schedules are measured by the other objectives, where that is asked for
 abbrev pub others_of : {A : Type 0} → Measure A → Option PosedData
 others_of (Optimum problem task best others) = others
-others_of (Bound task found others) = others
+others_of (Bound task weighed others) = others
 
 -- the jobs of the task
 abbrev pub jobs_in : {A : Type 0} → Measure A → ℕ
 jobs_in (Optimum problem task best others) = length task.jobs
-jobs_in (Bound task found others) = length task.jobs
+jobs_in (Bound task weighed others) = length task.jobs
 
 -- its machines that have an order of their own
 abbrev pub orders_in : {A : Type 0} → Measure A → ℕ
 orders_in (Optimum problem task best others) = orders_of task
-orders_in (Bound task found others) = problem_orders_of task
+orders_in (Bound task weighed others) = problem_orders_of task
 
 -- the semi-active schedule
 abbrev pub schedule_in : {A : Type 0} → Measure A → List Turn → List Piece
 schedule_in (Optimum problem task best others) turns = schedule_of task turns
-schedule_in (Bound task found others) turns = problem_schedule_of task turns
+schedule_in (Bound task weighed others) turns = problem_schedule_of task turns
 
 -- the text says an order of the jobs 1 to n, and the pieces are its semi-active schedule
 pub record IsLaid (n g : ℕ) (laid : List Turn → List Piece) (text : List ℕ) (ps : List Piece) : Type 0
@@ -78,12 +92,12 @@ pub record IsProblemUnordered (k : ProblemData) (text : List ℕ) : Type 0 where
 abbrev pub IsScheduled : {A : Type 0} → Measure A → List ℕ → List Piece → Type 0
 IsScheduled (Optimum problem task best others) text ps =
     IsLaid (length task.jobs) (orders_of task) (schedule_of task) text ps
-IsScheduled (Bound task found others) text ps = IsProblemScheduled task text ps
+IsScheduled (Bound task weighed others) text ps = IsProblemScheduled task text ps
 
 -- it says none
 abbrev pub IsUnordered : {A : Type 0} → Measure A → List ℕ → Type 0
 IsUnordered (Optimum problem task best others) text = IsNoOrder (length task.jobs) (orders_of task) text
-IsUnordered (Bound task found others) text = IsProblemUnordered task text
+IsUnordered (Bound task weighed others) text = IsProblemUnordered task text
 
 -- this is wrong with it
 abbrev pub IsProblemFlaw : ProblemData → List ℕ → Flaw → Type 0
@@ -93,4 +107,4 @@ IsProblemFlaw k text flaw =
 
 abbrev pub IsFlawOf : {A : Type 0} → Measure A → List ℕ → Flaw → Type 0
 IsFlawOf (Optimum problem task best others) text flaw = IsFlaw (length task.jobs) (orders_of task) text flaw
-IsFlawOf (Bound task found others) text flaw = IsProblemFlaw task text flaw
+IsFlawOf (Bound task weighed others) text flaw = IsProblemFlaw task text flaw

@@ -16,11 +16,11 @@ use Rattle.tf_engine.specs.Parts.{StopsBy, StopsReading}
 use Rattle.tf_engine.specs.RequestData.{RequestData}
 use Rattle.tf_engine.specs.Solvers.{IsNamedCycle}
 use Rattle.tf_plan.specs.Order.{IsFeasible, IsProblemCycle}
+use Rattle.tf_bound_text.specs.BoundSheetData.{BoundSheetData}
 use Rattle.tf_bounding.specs.RunBounding.{problem_task_for}
-use Rattle.tf_search.specs.declared.strongest.Found.{Found}
-use Rattle.tf_search.specs.Strongest.{IsFound}
 use Rattle.tf_evaluate.specs.Evaluating.{IsLeastCost}
-use Rattle.tf_assess.specs.RunRating.{is_solved, posed_problem}
+use Rattle.tf_assess.specs.Assessing.{IsWeighed}
+use Rattle.tf_assess.specs.declared.offered.Weighed.{Weighed}
 use Rattle.tf_assess.specs.Measures.{PosedData}
 use Rattle.tf_orders.specs.declared.case_read.OrderCase.{OrderCase}
 use Rattle.tf_orders.specs.declared.case_read.Posed.{Posed}
@@ -28,27 +28,29 @@ use Rattle.tf_orders.specs.declared.case_read.Posed.TheVariants.{Solved, Unsolve
 use Rattle.tf_orders.specs.declared.measure.Measure.{Measure}
 use Rattle.tf_orders.specs.declared.measure.Measure.TheVariants.{Optimum, Bound}
 use Rattle.tf_orders.specs.declared.run_orders.OrderForm.{OrderForm}
-use Rattle.tf_orders.specs.Measuring.{IsUnordered}
+use Rattle.tf_orders.specs.Measuring.{IsUnordered, is_by_optimum, measured_problem}
 use Rattle.tf_orders.specs.Pieces.{pieces_of}
 use Rattle.tf_orders.specs.OrderText.{IsMalformed}
 use Rattle.tf_orders.specs.RunOrders.{IsRefusedInstance, IsTooLong, HasOrderReaderFailed}
 
 -- the request and the text mean the task
-abbrev pub Means : {A : Type 0} → RequestData → List ℕ → Posed A → Type 0
-Means request text (Solved asked) =
-    IsTrue (is_solved request.problem) × IsAsked request text asked
-Means request text (Unsolved task) =
-    IsFalse (is_solved request.problem) × (problem_task_for request text ≡ Ok task)
+abbrev pub Means : {A : Type 0} → Bool → RequestData → List ℕ → Posed A → Type 0
+Means bounded request text (Solved asked) =
+    IsTrue (is_by_optimum bounded request.problem) × IsAsked request text asked
+Means bounded request text (Unsolved task) =
+    IsFalse (is_by_optimum bounded request.problem) × (problem_task_for request text ≡ Ok task)
 
 -- A part that reads an instance gives what its text means, which is all bytes of the reader up to its
 -- end where they are known, or the one refusal.
-pub record ReadsPosed {A T : Type 0} (request : RequestData) (remaining : T → Option (List ℕ))
-    (old new : Counted T) (result : Result (Posed A) (RunFault A)) : Type 0 where
+pub record ReadsPosed {A T : Type 0} (bounded : Bool) (request : RequestData)
+    (remaining : T → Option (List ℕ)) (old new : Counted T) (result : Result (Posed A) (RunFault A)) : Type 0 where
   pub text : List ℕ
   pub is_all : IsTextOf (remaining (inner_of old)) text
-  pub given : MatchResult result (Means request text)
-      (λ e. StopsReading (IsRefusedInstance request text) (has_failed new ≡ true) (stop_of e))
-  pub reader : LeavesInstance (posed_problem request.problem) remaining old new (end_of result)
+  pub given : MatchResult result (Means bounded request text)
+      (λ e. StopsReading (IsRefusedInstance bounded request text) (has_failed new ≡ true)
+      (stop_of e))
+  pub reader : LeavesInstance (measured_problem bounded request.problem) remaining old new
+      (end_of result)
 
 -- the text is too long, and refused as such
 abbrev pub IsLong : List ℕ → Refused → Type 0
@@ -65,44 +67,46 @@ pub record ReadsOrders {A T : Type 0} (remaining : T → Option (List ℕ)) (old
   pub reader : LeavesReader remaining old new (end_of result)
 
 -- the same of both texts
-pub record IsOrderCase {A : Type 0} (request : RequestData) (text orders : List ℕ)
-    (case : OrderCase A) : Type 0 where
-  pub means : Means request text case.posed
+pub record IsOrderCase {A : Type 0} (bounded : Bool) (request : RequestData)
+    (text orders : List ℕ) (case : OrderCase A) : Type 0 where
+  pub means : Means bounded request text case.posed
   pub text_is : case.text.items ≡ orders
   pub short : length orders ≤ most_bytes
 
 -- the refusal is that of the instance, or of orders that are too long
-abbrev pub IsRefusedCase : RequestData → List ℕ → List ℕ → Refused → Type 0
-IsRefusedCase request text orders refused =
-    IsRefusedInstance request text refused ⊎ IsTooLong request text orders refused
+abbrev pub IsRefusedCase : Bool → RequestData → List ℕ → List ℕ → Refused → Type 0
+IsRefusedCase bounded request text orders refused =
+    IsRefusedInstance bounded request text refused ⊎ IsTooLong bounded request text orders refused
 
-pub record ReadsOrderCase {A T U : Type 0} (request : RequestData) (remaining : T → Option (List ℕ))
-    (old new : Counted T) (giving : U → Option (List ℕ)) (before after : Counted U)
+pub record ReadsOrderCase {A T U : Type 0} (bounded : Bool) (request : RequestData)
+    (remaining : T → Option (List ℕ)) (old new : Counted T) (giving : U → Option (List ℕ)) (before after : Counted U)
     (result : Result (OrderCase A) (RunFault A)) : Type 0 where
   pub text : List ℕ
   pub is_all : IsTextOf (remaining (inner_of old)) text
   pub orders_text : List ℕ
   pub is_whole : IsTextOf (giving (inner_of before)) orders_text
-  pub given : MatchResult result (IsOrderCase request text orders_text)
-      (λ e. StopsReading (IsRefusedCase request text orders_text)
-      (HasOrderReaderFailed request text (use_of remaining old new) (use_of giving before after))
-      (stop_of e))
-  pub readers : LeavesBoth (posed_problem request.problem) remaining old new giving before after
-      (end_of result)
+  pub given : MatchResult result (IsOrderCase bounded request text orders_text)
+      (λ e. StopsReading (IsRefusedCase bounded request text orders_text)
+      (HasOrderReaderFailed bounded request text (use_of remaining old new)
+      (use_of giving before after)) (stop_of e))
+  pub readers : LeavesBoth (measured_problem bounded request.problem) remaining old new giving
+      before after (end_of result)
 
 -- ---- the measure
 
 -- this is the task's optimum, or a lower bound of it, with the instance that gives the other objectives
-abbrev pub Measures : {A : Type 0} → Option PosedData → Posed A → Measure A → Type 0
-Measures others (Solved asked) m =
+abbrev pub Measures : {A : Type 0} → Option BoundSheetData → Option PosedData → Posed A → Measure A
+    → Type 0
+Measures offer others (Solved asked) m =
     (best : ℤ) × (m ≡ Optimum asked.problem asked.task best others) × IsLeastCost asked.task best
-Measures {A = A} others (Unsolved task) m =
-    (found : Found A) × (m ≡ Bound task found others) × IsFeasible task × IsFound task found
+Measures {A = A} offer others (Unsolved task) m =
+    (weighed : Weighed A) × (m ≡ Bound task weighed others) × IsFeasible task
+    × IsWeighed task offer weighed
 
 -- the same with another instance
 abbrev pub with_others : {A : Type 0} → Measure A → Option PosedData → Measure A
 with_others (Optimum problem task best _) others = Optimum problem task best others
-with_others (Bound task found _) others = Bound task found others
+with_others (Bound task weighed _) others = Bound task weighed others
 
 -- the arcs of the task have a cycle, and the jobs are the one that is named
 abbrev pub IsCycleOf : {A : Type 0} → Posed A → List ℕ → Type 0

@@ -13,12 +13,12 @@ use Rattle.tf_problem.specs.ProblemData.{ProblemData}
 use Rattle.tf_text.specs.AnswerText.{line_text}
 use Rattle.tf_text.specs.declared.answer.fault.AnswerFault.{AnswerFault}
 use Rattle.tf_text.specs.declared.answer.fault.AnswerFault.TheVariants as answers
-use Rattle.tf_search.specs.declared.strongest.Found.{Found}
 use Rattle.tf_evaluate.specs.declared.evaluation.Standing.{Standing}
 use Rattle.tf_evaluate.specs.EvaluationData.{EvaluationData, gap, standing_of}
 use Rattle.tf_evaluate.specs.Evaluating.{outcomes_for}
 use Rattle.tf_evaluate.specs.EvaluationText.{fit_words, evaluation_text}
 use Rattle.tf_assess.specs.declared.assessment.Assessment.{Assessment}
+use Rattle.tf_assess.specs.declared.offered.Weighed.{Weighed}
 use Rattle.tf_assess.specs.declared.assessment.ProblemFit.{ProblemFit}
 use Rattle.tf_assess.specs.declared.assessment.ProblemFit.TheVariants as fits
 use Rattle.tf_assess.specs.Assessing.{IsProblemJudged, assessed_of, problem_outcomes}
@@ -58,15 +58,15 @@ pub record IsScheduleEvaluation (problem : Problem) (k : SchedulingTask) (best :
     outcomes = outcomes_for k ps (Some fit);
   }
 
--- the same of a problem without a solver
-pub record IsScheduleAssessment {A : Type 0} (k : ProblemData) (found : Found A)
+-- the same beside a lower bound, and beside what an offered bound comes to
+pub record IsScheduleAssessment {A : Type 0} (k : ProblemData) (weighed : Weighed A)
     (ps : List Piece) (a : Assessment A) : Type 0 where
   pub fit : ProblemFit
   pub judged : IsProblemJudged k ps fit
   pub is : a.fit ≡ Some fit
   pub claimed : a.claimed ≡ None
-  pub offered : a.offered ≡ None
-  pub bound : a.bound ≡ found
+  pub offered : a.offered ≡ weighed.offered
+  pub bound : a.bound ≡ weighed.bound
   pub outcomes : a.outcomes.items ≡ problem_outcomes k ps (Some fit)
 
 -- the text is the evaluation of the pieces, which come to this, with their values by the other
@@ -76,8 +76,8 @@ IsEvaluated (Optimum problem task best others) ps out standing =
     (e : EvaluationData) × IsScheduleEvaluation problem task best ps e
     × ((m : Option Measures) × AreMeasuredBy others ps m
     × (out ≡ measured_text (evaluation_text e) m)) × (standing ≡ standing_of e.fit e.best)
-IsEvaluated {A = A} (Bound task found others) ps out standing =
-    (a : Assessment A) × IsScheduleAssessment task found ps a
+IsEvaluated {A = A} (Bound task weighed others) ps out standing =
+    (a : Assessment A) × IsScheduleAssessment task weighed ps a
     × ((m : Option Measures) × AreMeasuredBy others ps m
     × (out ≡ measured_text (assessment_text task (length task.jobs) a) m))
     × (standing ≡ standing_as (assessed_of a.fit a.bound.value))
@@ -101,7 +101,7 @@ abbrev pub gap_or_dash : Option ℤ → ℤ → List ℕ
 gap_or_dash None bound = codes "-"
 gap_or_dash (Some value) bound = decimal (unsigned_abs (value -ℤ bound))
 
--- the same of a problem without a solver, of which the gap is that to the lower bound
+-- the same beside a lower bound, to which the gap is
 abbrev pub problem_row_words : ProblemFit → ℤ → Option Measures → List (List ℕ)
 problem_row_words (fits.Fits value) bound m =
     value_word value ∷ gap_or_dash value bound ∷ measured_words m
@@ -113,10 +113,10 @@ IsRowOf (Optimum problem task best others) ps row =
     (fit : Fit) × IsJudged task ps fit
     × ((m : Option Measures) × AreMeasuredBy others ps m
     × (row ≡ line_text (row_words fit best m)))
-IsRowOf (Bound task found others) ps row =
+IsRowOf (Bound task weighed others) ps row =
     (fit : ProblemFit) × IsProblemJudged task ps fit
     × ((m : Option Measures) × AreMeasuredBy others ps m
-    × (row ≡ line_text (problem_row_words fit found.value m)))
+    × (row ≡ line_text (problem_row_words fit weighed.bound.value m)))
 
 -- the line of the order that a text says
 abbrev pub IsRow : {A : Type 0} → Measure A → List ℕ → List ℕ → Type 0
@@ -186,7 +186,8 @@ AreRows goes_on m (line ∷ more) out =
 -- a line of what the orders are measured by: the optimum, or the lower bound
 abbrev pub measure_line : {A : Type 0} → Measure A → List ℕ
 measure_line (Optimum problem task best others) = line_text (codes "best" ∷ signed_decimal best ∷ [])
-measure_line (Bound task found others) = line_text (codes "bound" ∷ signed_decimal found.value ∷ [])
+measure_line (Bound task weighed others) =
+    line_text (codes "bound" ∷ signed_decimal weighed.bound.value ∷ [])
 
 -- a row behind the number of its line
 abbrev pub numbered_row : ℕ → List ℕ → List ℕ

@@ -52,7 +52,7 @@ pub record IsLaidByRule (IsSeen : RuledJob → Type 0) (n m : ℕ) (laid : List 
 
 abbrev pub IsSeenIn : {A : Type 0} → Measure A → RuledJob → Type 0
 IsSeenIn (Optimum problem task best others) = IsSeen task
-IsSeenIn (Bound task found others) = IsSeenOfProblem task
+IsSeenIn (Bound task weighed others) = IsSeenOfProblem task
 
 -- the same of a task
 abbrev pub IsRuled : {A : Type 0} → Rule → Measure A → List Piece → Type 0

@@ -1,5 +1,5 @@
 -- What a run over an instance and orders leaves behind.
-use Rattle.std.specs.Prelude.{◌≡◌, ℕ, ◌<◌, ◌⊎◌, true, List, length, Option, Result, Ok, Err, IsTrue, IsFalse, IsOk}
+use Rattle.std.specs.Prelude.{◌≡◌, ℕ, ◌<◌, ◌⊎◌, Bool, true, List, length, Option, is_some, Result, Ok, Err, IsTrue, IsFalse, IsOk}
 use Rattle.std.specs.Io.KnownBytes.{Appends}
 use Rattle.tf_model.specs.Limit.{most_bytes}
 use Rattle.tf_text.specs.Counted.{DeviceUse}
@@ -13,91 +13,99 @@ use Rattle.tf_engine.specs.RequestData.{RequestData}
 use Rattle.tf_engine.specs.Refusal.{task_for}
 use Rattle.tf_engine.specs.Runs.{Leaves}
 use Rattle.tf_problem.specs.ProblemData.{ProblemData}
+use Rattle.tf_bound_text.specs.BoundSheetData.{BoundSheetData}
 use Rattle.tf_bounding.specs.Feasible.{IsCyclicTask}
 use Rattle.tf_bounding.specs.RunBounding.{problem_task_for, IsRefusedBound}
-use Rattle.tf_assess.specs.RunRating.{is_solved}
 use Rattle.tf_assess.specs.Measures.{PosedData}
 use Rattle.tf_orders.specs.declared.measure.Measure.{Measure}
 use Rattle.tf_orders.specs.declared.run_orders.OrderForm.{OrderForm}
 use Rattle.tf_orders.specs.declared.run_orders.OrdersRated.{OrdersRated}
-use Rattle.tf_orders.specs.Measuring.{IsMeasure, others_of}
+use Rattle.tf_orders.specs.Measuring.{IsMeasure, is_by_optimum, others_of}
 use Rattle.tf_orders.specs.OrderText.{AreRated, IsMalformed}
 
--- the request and the text mean a task
-pub record IsPosed (request : RequestData) (text : List ℕ) : Type 0 where
-  pub solved : IsTrue (is_solved request.problem) → IsOk (task_for request text)
-  pub unsolved : IsFalse (is_solved request.problem) → IsOk (problem_task_for request text)
+-- the request and the text mean a task: of a class, or with a bound, or of another problem, one that has
+-- lower bounds
+pub record IsPosed (bounded : Bool) (request : RequestData) (text : List ℕ) : Type 0 where
+  pub solved : IsTrue (is_by_optimum bounded request.problem) → IsOk (task_for request text)
+  pub unsolved : IsFalse (is_by_optimum bounded request.problem)
+      → IsOk (problem_task_for request text)
 
 -- the refusal is that of the problem line or of the instance
-pub record IsRefusedInstance (request : RequestData) (text : List ℕ) (refused : Refused) : Type 0
-  where
-    pub solved : IsTrue (is_solved request.problem) → task_for request text ≡ Err refused
-    pub unsolved : IsFalse (is_solved request.problem) → IsRefusedBound request text refused
+pub record IsRefusedInstance (bounded : Bool) (request : RequestData) (text : List ℕ)
+    (refused : Refused) : Type 0 where
+  pub solved : IsTrue (is_by_optimum bounded request.problem) → task_for request text ≡ Err refused
+  pub unsolved : IsFalse (is_by_optimum bounded request.problem)
+      → IsRefusedBound request text refused
 
 -- the orders' text has more bytes than a text may have
-pub record IsTooLong (request : RequestData) (text orders : List ℕ) (refused : Refused) : Type 0 where
-  pub posed : IsPosed request text
+pub record IsTooLong (bounded : Bool) (request : RequestData) (text orders : List ℕ)
+    (refused : Refused) : Type 0 where
+  pub posed : IsPosed bounded request text
   pub is : refused ≡ ByAnswer answers.TooLong
   pub long : most_bytes < length orders
 
 -- what is written says how the schedules of the orders stand, with their values by the other objectives
 -- where an instance gives those
-pub record IsRated {A : Type 0} (form : OrderForm) (request : RequestData)
-    (others : Option PosedData) (text orders out : List ℕ) (rated : OrdersRated) (m : Measure A)
-    : Type 0 where
-  pub measure : IsMeasure request text m
+pub record IsRated {A : Type 0} (form : OrderForm) (offer : Option BoundSheetData)
+    (request : RequestData) (others : Option PosedData) (text orders out : List ℕ)
+    (rated : OrdersRated) (m : Measure A) : Type 0 where
+  pub measure : IsMeasure offer request text m
   pub others_are : others_of m ≡ others
   pub rated_is : AreRated form m orders out rated
 
-abbrev pub SaysRated : Type 0 → OrderForm → RequestData → Option PosedData → List ℕ → List ℕ
-    → List ℕ → Type 0
-SaysRated A form request others text orders out =
-    (rated : OrdersRated) × (m : Measure A) × IsRated form request others text orders out rated m
+abbrev pub SaysRated : Type 0 → OrderForm → Option BoundSheetData → RequestData → Option PosedData
+    → List ℕ → List ℕ → List ℕ → Type 0
+SaysRated A form offer request others text orders out =
+    (rated : OrdersRated) × (m : Measure A)
+    × IsRated form offer request others text orders out rated m
 
 -- a line of the orders or pieces is malformed
-pub record IsBadLine {A : Type 0} (form : OrderForm) (request : RequestData) (text orders : List ℕ)
-    (refused : Refused) (m : Measure A) : Type 0 where
-  pub measure : IsMeasure request text m
+pub record IsBadLine {A : Type 0} (form : OrderForm) (offer : Option BoundSheetData)
+    (request : RequestData) (text orders : List ℕ) (refused : Refused) (m : Measure A) : Type 0 where
+  pub measure : IsMeasure offer request text m
   pub fault : AnswerFault
   pub is : refused ≡ ByAnswer fault
   pub malformed : IsMalformed form m orders fault
 
 -- The refusals in their order: of the instance, of orders that are too long, the cycle of the arcs
 -- that is named, and the first malformed line.
-abbrev pub IsRefusedOrders : Type 0 → OrderForm → RequestData → List ℕ → List ℕ → Refused → Type 0
-IsRefusedOrders A form request text orders refused =
-    IsRefusedInstance request text refused
-    ⊎ IsTooLong request text orders refused
+abbrev pub IsRefusedOrders : Type 0 → OrderForm → Option BoundSheetData → RequestData → List ℕ
+    → List ℕ → Refused → Type 0
+IsRefusedOrders A form offer request text orders refused =
+    IsRefusedInstance (is_some offer) request text refused
+    ⊎ IsTooLong (is_some offer) request text orders refused
     ⊎ ((jobs : List ℕ) × (refused ≡ ByCycle jobs) × IsCyclic request text jobs)
     ⊎ ((task : ProblemData) × (problem_task_for request text ≡ Ok task)
     × IsCyclicTask task refused)
-    ⊎ ((m : Measure A) × IsBadLine form request text orders refused m)
+    ⊎ ((m : Measure A) × IsBadLine form offer request text orders refused m)
 
 -- the instance's reader failed, or there is a task and the orders' reader failed
-abbrev pub HasOrderReaderFailed : RequestData → List ℕ → DeviceUse → DeviceUse → Type 0
-HasOrderReaderFailed request text instance orders =
-    (instance.failed ≡ true) ⊎ (IsPosed request text × (orders.failed ≡ true))
+abbrev pub HasOrderReaderFailed : Bool → RequestData → List ℕ → DeviceUse → DeviceUse → Type 0
+HasOrderReaderFailed bounded request text instance orders =
+    (instance.failed ≡ true) ⊎ (IsPosed bounded request text × (orders.failed ≡ true))
 
 -- All of it is written, or the one refusal is given. Where memory was wanting there is neither.
 -- Nothing was written then, nor after a refusal or where a reader failed; where the writer failed a
 -- prefix was.
-abbrev pub OrdersOutcome : {A : Type 0} → OrderForm → RequestData → Option PosedData → List ℕ
-    → List ℕ → DeviceUse → DeviceUse → DeviceUse → Result OrdersRated (RunFault A) → Type 0
-OrdersOutcome {A = A} form request others text orders instance reader writer (Ok rated) =
-    (out : List ℕ) × (m : Measure A) × IsRated form request others text orders out rated m
+abbrev pub OrdersOutcome : {A : Type 0} → OrderForm → Option BoundSheetData → RequestData
+    → Option PosedData → List ℕ → List ℕ → DeviceUse → DeviceUse → DeviceUse
+    → Result OrdersRated (RunFault A) → Type 0
+OrdersOutcome {A = A} form offer request others text orders instance reader writer (Ok rated) =
+    (out : List ℕ) × (m : Measure A) × IsRated form offer request others text orders out rated m
     × Appends writer.before writer.after out
-OrdersOutcome {A = A} form request others text orders instance reader writer (Err e) =
-    Leaves (SaysRated A form request others text orders)
-    (IsRefusedOrders A form request text orders)
-    (HasOrderReaderFailed request text instance reader) writer (stop_of e)
+OrdersOutcome {A = A} form offer request others text orders instance reader writer (Err e) =
+    Leaves (SaysRated A form offer request others text orders)
+    (IsRefusedOrders A form offer request text orders)
+    (HasOrderReaderFailed (is_some offer) request text instance reader) writer (stop_of e)
 
 -- The outcome is that of two texts, which are all bytes of the readers up to their ends where they
--- are known.
-pub record IsOrdersRunOf {A : Type 0} (form : OrderForm) (request : RequestData)
-    (others : Option PosedData) (instance orders writer : DeviceUse)
+-- are known, and of what the text of a bound offers, where there is one.
+pub record IsOrdersRunOf {A : Type 0} (form : OrderForm) (offer : Option BoundSheetData)
+    (request : RequestData) (others : Option PosedData) (instance orders writer : DeviceUse)
     (result : Result OrdersRated (RunFault A)) : Type 0 where
   pub text : List ℕ
   pub is_all : IsTextOf instance.before text
   pub orders_text : List ℕ
   pub is_whole : IsTextOf orders.before orders_text
-  pub outcome : OrdersOutcome form request others text orders_text instance orders writer result
+  pub outcome : OrdersOutcome form offer request others text orders_text instance orders writer
+      result

@@ -14,17 +14,18 @@ use tf_model::task::Task;
 use tf_schedule::piece::Piece;
 use tf_text::counted::Counted;
 
-/// The pieces of the one schedule that a run over these texts evaluates, where it does and there is
-/// memory for them.
+/// The pieces of the one schedule that a run over these texts evaluates, beside a bound that is
+/// offered where it is `bounded`, where it does and there is memory for them.
 pub fn pieces_again(
     alloc: Global,
     asked: OrdersRequest<'_>,
+    bounded: bool,
     instance: &[u8],
     orders: &[u8],
 ) -> Option<Vec<Piece>> {
     let mut instance = Counted::new(instance);
     let mut orders = Counted::new(orders);
-    let case = order_case_read(alloc, asked.request, &mut instance, &mut orders).ok()?;
+    let case = order_case_read(alloc, asked.request, bounded, &mut instance, &mut orders).ok()?;
     let OrderCase { posed, text } = case;
     if text.len() > MOST_BYTES {
         return None;

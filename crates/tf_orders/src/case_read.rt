@@ -1,4 +1,6 @@
 //! From the readers of an instance and of orders to a task and the orders' text.
+ghost use Rattle.std.specs.Prelude.{◌≡◌};
+ghost use Rattle.tf_orders.specs.Measuring.{is_by_optimum};
 ghost use Rattle.tf_orders.specs.OrderParts.{ReadsOrderCase, ReadsOrders, ReadsPosed};
 
 use std::alloc::{Allocator, Global};
@@ -16,9 +18,9 @@ use tf_text::input::{InputFault, read_all};
 /// The task that is asked for.
 #[derive(Drop)]
 pub(crate) enum Posed<A: Allocator = Global> {
-    /// Of a problem of a class.
+    /// Of a problem of a class, which is measured by the optimum.
     Solved(Asked<A>),
-    /// Of another problem.
+    /// Of a problem that is measured by lower bounds.
     Unsolved(ProblemTask<A>),
 }
 
@@ -29,30 +31,43 @@ pub(crate) struct OrderCase<A: Allocator = Global> {
     pub text: Vec<u8, A>,
 }
 
-/// Reads an instance and the orders to their ends.
+/// Reads an instance and the orders to their ends. Where it is `bounded`, the schedules are measured
+/// by lower bounds, also in a class.
 pub(crate) fn order_case_read<A: Allocator + Copy, B: Allocator, R: Read, S: Read>(
     alloc: A,
     request: &Request<B>,
+    bounded: bool,
     instance: &mut Counted<R>,
     orders: &mut Counted<S>,
 ) -> Result<OrderCase<A>, RunFault<A>>
-    ensures { ReadsOrderCase request.now R.remaining instance.old instance.new S.remaining
+    ensures { ReadsOrderCase bounded request.now R.remaining instance.old instance.new S.remaining
         orders.old orders.new result }
 {
-    let posed = posed_read(alloc, request, instance)?;
+    let posed = posed_read(alloc, request, bounded, instance)?;
     let text = orders_read(alloc, orders)?;
     Ok(OrderCase { posed, text })
+}
+
+// Whether schedules for the problem of a line are measured by the optimum.
+fn is_by_optimum(bounded: bool, text: &str) -> bool
+    ensures { result ≡ is_by_optimum bounded text.now }
+{
+    if bounded {
+        return false;
+    }
+    is_solved(text)
 }
 
 // Reads an instance to its end.
 fn posed_read<A: Allocator + Copy, B: Allocator, R: Read>(
     alloc: A,
     request: &Request<B>,
+    bounded: bool,
     instance: &mut Counted<R>,
 ) -> Result<Posed<A>, RunFault<A>>
-    ensures { ReadsPosed request.now R.remaining instance.old instance.new result }
+    ensures { ReadsPosed bounded request.now R.remaining instance.old instance.new result }
 {
-    if is_solved(request.problem.as_str()) {
+    if is_by_optimum(bounded, request.problem.as_str()) {
         let asked = asked_read(alloc, request, instance)?;
         return Ok(Posed::Solved(asked));
     }

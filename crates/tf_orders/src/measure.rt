@@ -6,6 +6,7 @@ ghost use Rattle.tf_orders.specs.OrderParts.{IsUnmeasured, Measures, with_others
 use crate::case_read::Posed;
 use std::alloc::{Allocator, Global};
 use tf_assess::measures::PosedInstance;
+use tf_assess::offered::{Aids, Weighed, weigh};
 use tf_bound::task::ProblemTask;
 use tf_bounding::feasible::check_feasible;
 use tf_engine::case::Asked;
@@ -13,8 +14,8 @@ use tf_engine::fault::RunFault;
 use tf_evaluate::evaluate::least_cost;
 use tf_model::problem::Problem;
 use tf_model::task::Task;
-use tf_search::effort::{Effort, Nobody};
-use tf_search::strongest::{Found, strongest};
+use tf_search::effort::Progress;
+use tf_search::strongest::strongest;
 
 /// A task, and the optimum or a lower bound of it. `others` is the instance by which schedules are
 /// measured by the other objectives too, where that is asked for.
@@ -27,10 +28,11 @@ pub enum Measure<A: Allocator = Global> {
         best: i64,
         others: Option<PosedInstance<A>>,
     },
-    /// A task of another problem, and the strongest lower bound that is found.
+    /// A task, the strongest lower bound that is found or offered, and what the bound that was
+    /// offered comes to, where one was.
     Bound {
         task: ProblemTask<A>,
-        found: Found<A>,
+        weighed: Weighed<A>,
         others: Option<PosedInstance<A>>,
     },
 }
@@ -52,21 +54,24 @@ impl<A: Allocator> Measure<A> {
                 best,
                 others,
             },
-            Measure::Bound { task, found, .. } => Measure::Bound {
+            Measure::Bound { task, weighed, .. } => Measure::Bound {
                 task,
-                found,
+                weighed,
                 others,
             },
         }
     }
 }
 
-/// Solves the task, or searches for a lower bound of it. There are no other objectives.
-pub(crate) fn measured<A: Allocator + Copy>(
+/// Solves the task, or searches for a lower bound of it beside the one that is offered. There are
+/// no other objectives.
+pub(crate) fn measured<A: Allocator + Copy, P: Progress + Drop>(
     alloc: A,
     posed: Posed<A>,
+    aids: Aids<P, A>,
 ) -> Result<Measure<A>, RunFault<A>>
-    ensures { MatchResult result (Measures None posed) (λ e. IsUnmeasured posed (stop_of e)) }
+    ensures { MatchResult result (Measures aids.offered None posed)
+        (λ e. IsUnmeasured posed (stop_of e)) }
 {
     match posed {
         Posed::Solved(asked) => {
@@ -81,11 +86,12 @@ pub(crate) fn measured<A: Allocator + Copy>(
         }
         Posed::Unsolved(task) => {
             check_feasible(alloc, &task)?;
-            let effort: Effort<Nobody> = Effort::untold(None);
+            let Aids { effort, offered } = aids;
             let found = strongest(alloc, &task, effort)?;
+            let weighed = weigh(alloc, &task, offered, found)?;
             Ok(Measure::Bound {
                 task,
-                found,
+                weighed,
                 others: None,
             })
         }

@@ -39,7 +39,7 @@ fn push_measure<A: Allocator, B: Allocator>(
 {
     match measure {
         Measure::Optimum { best, .. } => push_number_line(out, b"best", *best),
-        Measure::Bound { found, .. } => push_number_line(out, b"bound", found.value),
+        Measure::Bound { weighed, .. } => { push_number_line(out, b"bound", weighed.bound.value) }
     }
 }
 

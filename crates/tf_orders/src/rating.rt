@@ -23,6 +23,7 @@ use std::alloc::Allocator;
 use tf_assess::assess::{judge_problem_pieces, judged};
 use tf_assess::assessment::Assessment;
 use tf_assess::measures::{measured_by, with_measures};
+use tf_assess::offered::Weighed;
 use tf_assess::run_rate::standing_as;
 use tf_assess::writing::assessment_bytes;
 use tf_bound::task::ProblemTask;
@@ -37,7 +38,6 @@ use tf_model::memory::OutOfMemory;
 use tf_model::problem::Problem;
 use tf_model::task::Task;
 use tf_schedule::piece::Piece;
-use tf_search::strongest::Found;
 use tf_sequencing::rule::Rule;
 use tf_text::answer::fault::AnswerFault;
 use tf_words::line::{Line, Lines};
@@ -163,11 +163,11 @@ fn evaluated<A: Allocator + Copy>(
         }
         Measure::Bound {
             task,
-            found,
+            weighed,
             others,
         } => {
             let measures = measured_by(alloc, &others, &pieces)?;
-            let assessment = assessment_of(alloc, &task, found, pieces)?;
+            let assessment = assessment_of(alloc, &task, weighed, pieces)?;
             let text = with_measures(assessment_bytes(alloc, &task, &assessment)?, &measures)?;
             let rated = OrdersRated::Single(standing_as(assessment.assessed()));
             Ok(Rating { text, rated })
@@ -201,21 +201,22 @@ fn evaluation_of<A: Allocator + Copy, B: Allocator>(
     })
 }
 
-// How a schedule stands to a task of another problem.
+// How a schedule stands to a task beside a lower bound.
 fn assessment_of<A: Allocator + Copy, B: Allocator>(
     alloc: A,
     task: &ProblemTask<B>,
-    found: Found<A>,
+    weighed: Weighed<A>,
     pieces: Vec<Piece, A>,
 ) -> Result<Assessment<A>, OutOfMemory>
-    ensures { IfOk result (IsScheduleAssessment task.now found pieces.items) }
+    ensures { IfOk result (IsScheduleAssessment task.now weighed pieces.items) }
 {
+    let Weighed { offered, bound } = weighed;
     let judged = judge_problem_pieces(alloc, task, pieces)?;
     Ok(Assessment {
         fit: Some(judged.fit),
         claimed: None,
-        offered: None,
-        bound: found,
+        offered,
+        bound,
         outcomes: judged.outcomes,
     })
 }
@@ -305,12 +306,12 @@ pub(crate) fn push_rated<A: Allocator + Copy, B: Allocator>(
         }
         Measure::Bound {
             task,
-            found,
+            weighed,
             others,
         } => {
             let measures = measured_by(alloc, others, &pieces)?;
             let fit = judged(alloc, task, pieces)?;
-            push_problem_row(out, fit, found.value, &measures)
+            push_problem_row(out, fit, weighed.bound.value, &measures)
         }
     }
 }

@@ -1,8 +1,9 @@
 //! Rating the schedules of orders, from bytes to bytes.
+ghost use Rattle.std.specs.Prelude.{is_some};
 ghost use Rattle.tf_text.specs.Counted.{use_of};
 ghost use Rattle.tf_engine.specs.Devices.{LeavesCase};
 ghost use Rattle.tf_engine.specs.Faults.{end_of};
-ghost use Rattle.tf_assess.specs.RunRating.{posed_problem};
+ghost use Rattle.tf_orders.specs.Measuring.{measured_problem};
 ghost use Rattle.tf_orders.specs.RunOrders.{IsOrdersRunOf};
 
 use crate::case_read::{OrderCase, order_case_read};
@@ -11,9 +12,11 @@ use crate::rating::{Rating, rating_of};
 use std::alloc::{Allocator, Global};
 use std::io::{Read, Write};
 use tf_assess::measures::PosedInstance;
+use tf_assess::offered::Aids;
 use tf_engine::fault::RunFault;
 use tf_engine::request::Request;
 use tf_evaluate::evaluation::Standing;
+use tf_search::effort::Progress;
 use tf_sequencing::rule::Rule;
 use tf_text::counted::Counted;
 
@@ -44,6 +47,16 @@ pub struct OrdersRequest<'a, A: Allocator = Global> {
     pub form: OrderForm,
 }
 
+/// What schedules are measured by.
+#[derive(Drop)]
+pub struct Measuring<P, A: Allocator = Global> {
+    /// What the search for a lower bound goes by. Where a bound is offered, the schedules are
+    /// measured by lower bounds, also where the problem has a solver.
+    pub aids: Aids<P, A>,
+    /// The instance that gives the other objectives, where these are asked for.
+    pub others: Option<PosedInstance<A>>,
+}
+
 /// What was written of orders.
 #[derive(Clone, Copy, Debug, Drop, PartialEq, Eq)]
 pub enum OrdersRated {
@@ -55,36 +68,48 @@ pub enum OrdersRated {
 
 /// Reads an instance and the text of orders or pieces to their ends, and writes how good the
 /// schedule of the pieces is, or the semi-active schedules of the orders. The task is solved, or a
-/// lower bound of it is searched for, once. Where an instance is given for the other objectives, the
+/// lower bound of it is searched for, once; where a bound is offered, that is judged and taken if it
+/// is stronger. Where an instance is given for the other objectives, the
 /// values of each schedule that fits by these are written too: in an evaluation a line
 /// `measure NAME VALUE` for each that it has, and in the line of an order nine words, or `-` where
 /// there is none.
 ///
 /// The refusals come in this order: those of [`tf_engine::run_solve::run_solve`], where a problem
-/// of no class is refused only if no kind of certificate bounds it; reading the orders; a cycle of
-/// the arcs; and the first line that is no order, as
+/// of no class, and with a bound any problem, is refused only if no kind of certificate bounds it;
+/// reading the orders; a cycle of the arcs; and the first line that is no order, as
 /// [`tf_text::answer::fault::AnswerFault::BadLine`], unless the others are gone on with, or the
-/// first fault of the pieces. After a refusal nothing was written, unless it is [`RunFault::Device`], after which a prefix may have
-/// been.
-pub fn run_orders<A: Allocator + Copy, B: Allocator, R: Read, S: Read, W: Write>(
+/// first fault of the pieces. After a refusal nothing was written, unless it is
+/// [`RunFault::Device`], after which a prefix may have been.
+pub fn run_orders<
+    A: Allocator + Copy,
+    B: Allocator,
+    P: Progress + Drop,
+    R: Read,
+    S: Read,
+    W: Write,
+>(
     alloc: A,
     asked: OrdersRequest<'_, B>,
-    others: Option<PosedInstance<A>>,
+    measuring: Measuring<P, A>,
     instance: &mut Counted<R>,
     orders: &mut Counted<S>,
     writer: &mut Counted<W>,
 ) -> Result<OrdersRated, RunFault<A>>
-    ensures outcome { IsOrdersRunOf asked.entry.form asked.entry.request.now others
+    ensures outcome { IsOrdersRunOf asked.entry.form measuring.aids.offered
+        asked.entry.request.now measuring.others
         (use_of R.remaining instance.old instance.new)
         (use_of S.remaining orders.old orders.new) (use_of W.contents writer.old writer.new)
         result }
-    ensures devices { LeavesCase (posed_problem asked.entry.request.now.problem) R.remaining
-        instance.old instance.new S.remaining orders.old orders.new writer.old writer.new
+    ensures devices { LeavesCase
+        (measured_problem (is_some measuring.aids.offered) asked.entry.request.now.problem)
+        R.remaining instance.old instance.new S.remaining orders.old orders.new writer.old writer.new
         (end_of result) }
 {
-    let case = order_case_read(alloc, asked.request, instance, orders)?;
+    let Measuring { aids, others } = measuring;
+    let bounded = aids.offered.is_some();
+    let case = order_case_read(alloc, asked.request, bounded, instance, orders)?;
     let OrderCase { posed, text } = case;
-    let measure = measured(alloc, posed)?;
+    let measure = measured(alloc, posed, aids)?;
     let measure = measure.with_others(others);
     let rating = rating_of(alloc, asked.form, measure, text.as_slice())?;
     let Rating { text, rated } = rating;

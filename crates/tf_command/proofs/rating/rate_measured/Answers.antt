@@ -19,13 +19,14 @@ returns g c =
     let reader = use_of left c.new-instance-2.result c.rate.new.instance in
     let orders = use_of left c.new-orders-2.result c.rate.new.orders in
     let given = λ (r : Recorded (Bor (List ℕ))). Some r.inner.now in
-    let done = subst (λ (form : OrderForm). EndsRating Global form (requested options Two) others reader
-    orders
+    let offer = c.args.aids.offered in
+    let done = subst (λ (form : OrderForm). EndsRating Global form offer (requested options Two) others
+    reader orders
     (use_of g.W.Write.contents c.source_text.new.console.writer c.rate.new.console.writer)
     (SaysLine g.E.Write.contents options.telling.explain c.source_text.new.console.errors
-    c.rate.new.console.errors) c.rate.result) c.source_form-form.ensures c.rate.ensures in
+    c.rate.new.console.errors) c.rate.result) c.source_form.ensures c.rate.ensures in
     inl
-    (subst (λ console. EndsMeasuring texts options c.args.source
+    (subst (λ console. EndsMeasuring texts options c.args.source offer
     (use_of g.W.Write.contents console.writer c.rate.new.console.writer)
     (SaysLine g.E.Write.contents options.telling.explain console.errors c.rate.new.console.errors)
     c.rate.result) (c.in-Ok-source_text.ensures.kept ∙ c.in-Ok.ensures.kept)
