@@ -1,12 +1,14 @@
 -- The lines of a series, one after the other.
-use Rattle.std.proofs.Common.{◌≡◌, ℕ, ◌+◌, ◌-◌, ◌<◌, max, Option, Some, None, unwrap_or, inl, inr, List, [], ◌∷◌, ◌++◌, length, refl, sym, ap, ◌∙◌, subst, arith, append_assoc, append-nil}
+use Rattle.std.proofs.Common.{◌≡◌, ℕ, ◌+◌, ◌-◌, ◌<◌, ◌≤◌, max, Option, Some, None, IfSome, unwrap_or, inl, inr, List, [], ◌∷◌, ◌++◌, length, take, refl, sym, ap, ◌∙◌, subst, arith, append_assoc, append-nil}
+use Rattle.std.specs.Io.KnownBytes.{Appends}
+use Rattle.std.proofs.KnownBytes.{Appends-kept, Appends-nil, Appends-trans}
 use Rattle.std.proofs.lemmas.List.{length-append}
 use Rattle.tf_options.specs.declared.series.Series.{Series}
-use Rattle.tf_text.specs.Counted.{inner_of}
+use Rattle.tf_text.specs.Counted.{DeviceUse, inner_of}
 use Rattle.tf_export.specs.Entry.{entry}
 use Rattle.tf_command.specs.Formatted.{Memory}
 use Rattle.tf_held.specs.AnswerTexts.{IsNext}
-use Rattle.tf_held.specs.Series.{AreEntries, AreLines, EndsUntold, IsAll, IsEntry, IsStop, IsStopAt, IsStopped, Tells, joined, no_instance}
+use Rattle.tf_held.specs.Series.{AreEntries, EndsUntold, IsAll, IsCutAt, IsEntry, IsStopAt, IsStopped, IsUnwritten, Tells, WritesAll, WritesUntil, joined, no_instance}
 use Rattle.tf_held.specs.declared.series.Stop.{Stop}
 use Rattle.tf_held.specs.declared.series.Stop.TheVariants as stops
 use Rattle.tf_held.proofs.Told.{no_last}
@@ -43,31 +45,32 @@ entries_snoc series instance number answers (first ∷ lines) rest answer after 
 )
 
 -- so many lines are written, and the answers to those instances are passed
-pub record Progress (series : Series) (instance answers all rest : List ℕ) (steps : ℕ) : Type 0 where
+pub record Progress (series : Series) (instance answers rest : List ℕ) (steps : ℕ)
+    (before now : Option (List ℕ)) : Type 0 where
   pub lines : List (List ℕ)
   pub entries : AreEntries series instance series.span.first answers lines rest
   pub count : length lines ≡ steps
-  pub written : all ≡ joined lines
+  pub written : Appends before now (joined lines)
 
-pub begun : (series : Series) (instance answers : List ℕ)
-    → Progress series instance answers [] answers 0
-begun series instance answers = record {
+pub begun : (series : Series) (instance answers : List ℕ) (before : Option (List ℕ))
+    → Progress series instance answers answers 0 before before
+begun series instance answers before = record {
   lines = [];
   entries = refl;
   count = refl;
-  written = refl;
+  written = Appends-nil before;
 }
 
 -- the number of the instance whose turn it is
 here_is : (first number steps n : ℕ) → number ≡ first + steps → n ≡ steps → number ≡ first + n
 here_is first number steps n at count = omega (arith, at, count)
 
-pub gone_on : (series : Series) (instance answers all rest : List ℕ) (steps number : ℕ)
-    (answer more line next : List ℕ) → Progress series instance answers all rest steps
-    → number ≡ series.span.first + steps → IsEntry series instance answer number line
-    → IsNext rest answer more → next ≡ all ++ line
-    → Progress series instance answers next more (steps + 1)
-gone_on series instance answers all rest steps number answer more line next done at is cut written =
+pub gone_on : (series : Series) (instance answers rest : List ℕ) (steps number : ℕ)
+    (answer more line : List ℕ) (before now next : Option (List ℕ))
+    → Progress series instance answers rest steps before now → number ≡ series.span.first + steps
+    → IsEntry series instance answer number line → IsNext rest answer more → Appends now next line
+    → Progress series instance answers more (steps + 1) before next
+gone_on series instance answers rest steps number answer more line before now next done at is cut written =
     record {
       lines = done.lines ++ line ∷ [];
       entries = entries_snoc series instance series.span.first answers done.lines rest answer more
@@ -75,8 +78,9 @@ gone_on series instance answers all rest steps number answer more line next done
           (subst (λ (n : ℕ). IsEntry series instance answer n line)
           (here_is series.span.first number steps (length done.lines) at done.count) is);
       count = length-append done.lines (line ∷ []) ∙ ap (λ (n : ℕ). n + 1) done.count;
-      written =
-          written ∙ ap (λ text. text ++ line) done.written ∙ sym (joined_snoc done.lines line);
+      written = subst (λ (text : List ℕ). Appends before next text)
+          (sym (joined_snoc done.lines line))
+          (Appends-trans before now next (joined done.lines) line done.written written);
     }
 
 -- what is kept of an instance makes its line
@@ -100,11 +104,11 @@ reached series instance rest (Some last) next is = is
 reached series instance rest None next is = inl is
 
 -- all lines are written
-pub finished : (series : Series) (instance answers all rest : List ℕ) (steps : ℕ)
-    → Progress series instance answers all rest steps
+pub finished : (series : Series) (instance answers rest : List ℕ) (steps : ℕ) (writer : DeviceUse)
+    → Progress series instance answers rest steps writer.before writer.after
     → steps ≡ unwrap_or series.span.last 4294967295 + 1 - series.span.first
-    → AreLines series instance answers all
-finished series instance answers all rest steps done at = record {
+    → WritesAll series instance answers writer
+finished series instance answers rest steps writer done at = record {
   lines = done.lines;
   rest = rest;
   entries = done.entries;
@@ -122,27 +126,104 @@ over series instance rest answer after number None none next later untold =
 over series instance rest answer after number (Some last) none next later untold =
     absurd (no_last last none)
 
--- the instance whose turn it is has no line
-stops_here : (series : Series) (instance answers all rest answer after : List ℕ) (steps number : ℕ)
-    (stop : Stop) → Progress series instance answers all rest steps
+-- the file has no more instances
+pub come_to_end : (series : Series) (instance answers rest answer after : List ℕ) (steps number : ℕ)
+    (writer : DeviceUse) → Progress series instance answers rest steps writer.before writer.after
     → number ≡ series.span.first + steps → IsNext rest answer after
-    → IsStopAt series instance answer number stop → IsStopped series instance answers stop
-stops_here series instance answers all rest answer after steps number stop done at next is = record {
-  lines = done.lines;
+    → Tells series instance answer number None → WritesAll series instance answers writer
+come_to_end series instance answers rest answer after steps number writer done at next (none, later, untold) =
+    record {
+      lines = done.lines;
+      rest = rest;
+      entries = done.entries;
+      all = subst (λ (n : ℕ). IsAll series instance rest series.span.last n)
+          (here_is series.span.first number steps (length done.lines) at done.count)
+          (over series instance rest answer after number series.span.last none next later untold);
+      written = done.written;
+    }
+
+is_asked : (last : Option ℕ) (first steps : ℕ) → steps < unwrap_or last 4294967295 + 1 - first
+    → IfSome last (λ last. first + steps ≤ last)
+is_asked None first steps within = tt
+is_asked (Some last) first steps within = omega (arith, within)
+
+-- the instance whose turn it is, and its answer
+cut_at : (series : Series) (instance answers rest answer after : List ℕ) (steps : ℕ)
+    (before now : Option (List ℕ)) → (done : Progress series instance answers rest steps before now)
+    → steps < unwrap_or series.span.last 4294967295 + 1 - series.span.first → IsNext rest answer after
+    → IsCutAt series instance answers done.lines answer
+cut_at series instance answers rest answer after steps before now done within next = record {
   rest = rest;
   entries = done.entries;
-  answer = answer;
+  asked = subst (λ (n : ℕ). IfSome series.span.last (λ last. series.span.first + n ≤ last))
+      (sym done.count) (is_asked series.span.last series.span.first steps within);
   after = after;
   next = next;
-  is = subst (λ (n : ℕ). IsStopAt series instance answer n stop)
-      (here_is series.span.first number steps (length done.lines) at done.count) is;
 }
 
-pub stopped : (series : Series) (instance answers all rest answer after : List ℕ)
-    (steps number : ℕ) (stop : Stop) → Progress series instance answers all rest steps
-    → number ≡ series.span.first + steps → IsNext rest answer after
-    → IsStopAt series instance answer number stop → IsStop series instance answers stop
-stopped series instance answers all rest answer after steps number stops.Memory done at next is = tt
-stopped series instance answers all rest answer after steps number (stops.Ended status said) done at next is =
-    stops_here series instance answers all rest answer after steps number (stops.Ended status said)
-    done at next is
+-- the instance whose turn it is has no line
+stops_here : (series : Series) (instance answers rest answer after : List ℕ) (steps number : ℕ)
+    (writer : DeviceUse) (stop : Stop)
+    → Progress series instance answers rest steps writer.before writer.after
+    → number ≡ series.span.first + steps
+    → steps < unwrap_or series.span.last 4294967295 + 1 - series.span.first → IsNext rest answer after
+    → IsStopAt series instance answer number stop → IsStopped series instance answers writer stop
+stops_here series instance answers rest answer after steps number writer stop done at within next is =
+    record {
+      lines = done.lines;
+      answer = answer;
+      cut = cut_at series instance answers rest answer after steps writer.before writer.after done
+          within next;
+      is = subst (λ (n : ℕ). IsStopAt series instance answer n stop)
+          (here_is series.span.first number steps (length done.lines) at done.count) is;
+      written = done.written;
+    }
+
+pub stopped : (series : Series) (instance answers rest answer after : List ℕ) (steps number : ℕ)
+    (writer : DeviceUse) (stop : Stop)
+    → Progress series instance answers rest steps writer.before writer.after
+    → number ≡ series.span.first + steps
+    → steps < unwrap_or series.span.last 4294967295 + 1 - series.span.first → IsNext rest answer after
+    → IsStopAt series instance answer number stop → WritesUntil series instance answers writer stop
+stopped series instance answers rest answer after steps number writer stops.Memory done at within next is =
+    stops_here series instance answers rest answer after steps number writer stops.Memory done at
+    within next is
+stopped series instance answers rest answer after steps number writer stops.Unwritten done at within next is =
+    absurd is
+stopped series instance answers rest answer after steps number writer (stops.Ended status said) done at within next is =
+    stops_here series instance answers rest answer after steps number writer (stops.Ended status said)
+    done at within next is
+
+-- the line of the instance whose turn it is was not written whole
+pub cut_off : (series : Series) (instance answers rest answer after line : List ℕ)
+    (steps number : ℕ) (now : Option (List ℕ)) (writer : DeviceUse) (stop : Stop)
+    → Progress series instance answers rest steps writer.before now
+    → number ≡ series.span.first + steps
+    → steps < unwrap_or series.span.last 4294967295 + 1 - series.span.first → IsNext rest answer after
+    → IsEntry series instance answer number line
+    → IsUnwritten (record { before = now; after = writer.after; failed = writer.failed }) line stop
+    → WritesUntil series instance answers writer stop
+cut_off series instance answers rest answer after line steps number now writer stops.Memory done at within next is kept =
+    record {
+      lines = done.lines;
+      answer = answer;
+      cut = cut_at series instance answers rest answer after steps writer.before now done within next;
+      is = tt;
+      written = Appends-kept writer.before now writer.after (joined done.lines) done.written kept;
+    }
+cut_off series instance answers rest answer after line steps number now writer stops.Unwritten done at within next is (failed, part) =
+    record {
+      lines = done.lines;
+      answer = answer;
+      cut = cut_at series instance answers rest answer after steps writer.before now done within next;
+      line = line;
+      is = subst (λ (n : ℕ). IsEntry series instance answer n line)
+          (here_is series.span.first number steps (length done.lines) at done.count) is;
+      failed = failed;
+      taken = part.0;
+      within = part.1;
+      written = Appends-trans writer.before now writer.after (joined done.lines) (take part.0 line)
+          done.written part.2;
+    }
+cut_off series instance answers rest answer after line steps number now writer (stops.Ended status said) done at within next is none =
+    absurd none

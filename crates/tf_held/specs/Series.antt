@@ -1,10 +1,10 @@
 -- What is told of each of several instances of a weighted tardiness file.
-use Rattle.std.specs.Prelude.{◌≡◌, ◌⊎◌, ℕ, ◌+◌, ◌<◌, max, Bool, true, false, ◌||◌, ◌==◌, List, [], ◌∷◌, ◌++◌, length, Option, None, Some, codes}
+use Rattle.std.specs.Prelude.{◌≡◌, ◌⊎◌, ℕ, ◌+◌, ◌<◌, ◌≤◌, max, Bool, true, false, ◌||◌, ◌==◌, List, [], ◌∷◌, ◌++◌, length, take, Option, None, Some, IfSome, codes}
 use Rattle.std.specs.List.{flat_map}
 use Rattle.std.specs.Fmt.{decimal}
-use Rattle.std.specs.Io.KnownBytes.{Keeps}
+use Rattle.std.specs.Io.KnownBytes.{Appends, Keeps}
 use Rattle.tf_text.specs.AnswerText.{line_text}
-use Rattle.tf_text.specs.Counted.{DeviceUse, inner_of, has_failed, use_of}
+use Rattle.tf_text.specs.Counted.{AppendsPrefix, DeviceUse, inner_of, has_failed, use_of}
 use Rattle.tf_text.specs.Input.{IsTextOf}
 use Rattle.tf_text.specs.declared.answer.layout.Layout.TheVariants.{Two}
 use Rattle.tf_engine.specs.FormData.{InWt}
@@ -20,7 +20,7 @@ use Rattle.tf_options.specs.declared.series.Told.{Told}
 use Rattle.tf_options.specs.declared.series.Told.TheVariants.{Values, Bounds, Answers}
 use Rattle.tf_command.specs.Ending.{SaysLine}
 use Rattle.tf_command.specs.Formatted.{Memory, held}
-use Rattle.tf_command.specs.Performing.{Performs, EndsWriting}
+use Rattle.tf_command.specs.Performing.{Performs}
 use Rattle.tf_command.specs.Unread.{Texts}
 use Rattle.tf_held.specs.AnswerTexts.{IsNext}
 use Rattle.tf_command.specs.Unread.{IsUnread}
@@ -114,9 +114,17 @@ instance_line number = line_text (codes "threefield: instance" ∷ decimal numbe
 -- why there is no line of the instance of this number
 abbrev pub IsStopAt : Series → List ℕ → List ℕ → ℕ → Stop → Type 0
 IsStopAt series instance answer number stops.Memory = Unit {0}
+IsStopAt series instance answer number stops.Unwritten = ⊥
 IsStopAt series instance answer number (stops.Ended status said) =
     (errors : List ℕ) × EndsUntold series instance answer number status errors
     × (said.items ≡ errors ++ instance_line number)
+
+-- why the line of an instance was not written
+abbrev pub IsUnwritten : DeviceUse → List ℕ → Stop → Type 0
+IsUnwritten writer line stops.Memory = Keeps writer.before writer.after
+IsUnwritten writer line stops.Unwritten =
+    (writer.failed ≡ true) × AppendsPrefix writer.before writer.after line
+IsUnwritten writer line (stops.Ended status said) = ⊥
 
 -- ---- all of them
 
@@ -143,38 +151,65 @@ IsAll series instance rest None next =
     × ((answer : List ℕ) × (after : List ℕ) × IsNext rest answer after
     × ((status : ℕ) × EndsUntold series instance answer next status no_instance)))
 
--- a line of each, in their order
-pub record AreLines (series : Series) (instance answers out : List ℕ) : Type 0 where
-  pub lines : List (List ℕ)
+-- a line of each was written, in their order
+pub record WritesAll (series : Series) (instance answers : List ℕ) (writer : DeviceUse) : Type 0
+  where
+    pub lines : List (List ℕ)
+    pub rest : List ℕ
+    pub entries : AreEntries series instance series.span.first answers lines rest
+    pub all : IsAll series instance rest series.span.last (series.span.first + length lines)
+    pub written : Appends writer.before writer.after (joined lines)
+
+-- ---- the first of them alone
+
+-- the instances before have these lines, and the one that follows them is asked for, with this answer
+pub record IsCutAt (series : Series) (instance answers : List ℕ) (lines : List (List ℕ))
+    (answer : List ℕ) : Type 0 where
   pub rest : List ℕ
   pub entries : AreEntries series instance series.span.first answers lines rest
-  pub all : IsAll series instance rest series.span.last (series.span.first + length lines)
-  pub written : out ≡ joined lines
-
--- ---- why there are none
-
--- the instances before have a line each, and the one that follows them has none
-pub record IsStopped (series : Series) (instance answers : List ℕ) (stop : Stop) : Type 0 where
-  pub lines : List (List ℕ)
-  pub rest : List ℕ
-  pub entries : AreEntries series instance series.span.first answers lines rest
-  pub answer : List ℕ
+  pub asked : IfSome series.span.last (λ last. series.span.first + length lines ≤ last)
   pub after : List ℕ
   pub next : IsNext rest answer after
-  pub is : IsStopAt series instance answer (series.span.first + length lines) stop
 
-abbrev pub IsStop : Series → List ℕ → List ℕ → Stop → Type 0
-IsStop series instance answers stops.Memory = Unit {0}
-IsStop series instance answers (stops.Ended status said) =
-    IsStopped series instance answers (stops.Ended status said)
+-- the lines before an instance that has none were written
+pub record IsStopped (series : Series) (instance answers : List ℕ) (writer : DeviceUse)
+    (stop : Stop) : Type 0 where
+  pub lines : List (List ℕ)
+  pub answer : List ℕ
+  pub cut : IsCutAt series instance answers lines answer
+  pub is : IsStopAt series instance answer (series.span.first + length lines) stop
+  pub written : Appends writer.before writer.after (joined lines)
+
+-- the device failed within the line of an instance: the lines before it were written, and a part of it
+pub record IsCutOff (series : Series) (instance answers : List ℕ) (writer : DeviceUse) : Type 0 where
+  pub lines : List (List ℕ)
+  pub answer : List ℕ
+  pub cut : IsCutAt series instance answers lines answer
+  pub line : List ℕ
+  pub is : IsEntry series instance answer (series.span.first + length lines) line
+  pub failed : writer.failed ≡ true
+  pub taken : ℕ
+  pub within : taken ≤ length line
+  pub written : Appends writer.before writer.after (joined lines ++ take taken line)
+
+-- what was written before this stop
+abbrev pub WritesUntil : Series → List ℕ → List ℕ → DeviceUse → Stop → Type 0
+WritesUntil series instance answers writer stops.Memory =
+    IsStopped series instance answers writer stops.Memory
+WritesUntil series instance answers writer stops.Unwritten =
+    IsCutOff series instance answers writer
+WritesUntil series instance answers writer (stops.Ended status said) =
+    IsStopped series instance answers writer (stops.Ended status said)
 
 -- the status, and what is said
 abbrev pub status_of_stop : Stop → ℕ
 status_of_stop stops.Memory = 3
+status_of_stop stops.Unwritten = 4
 status_of_stop (stops.Ended status said) = status
 
 abbrev pub line_of_stop : Stop → List ℕ
 line_of_stop stops.Memory = codes "threefield: want of memory\n"
+line_of_stop stops.Unwritten = codes "threefield: device fault\n"
 line_of_stop (stops.Ended status said) = said.items
 
 -- ---- how it ends
@@ -184,18 +219,18 @@ abbrev pub HasAnswers : Texts → Told → List ℕ → Type 0
 HasAnswers texts (Answers name steps) answers = IsTextOf (texts name.now) answers
 HasAnswers texts _ answers = answers ≡ []
 
--- the lines were written, or a part of them where the device failed, which is said
+-- all lines were written
 pub record EndsTold (texts : Texts) (series : Series) (writer : DeviceUse) (says : List ℕ → Type 0)
     (status : ℕ) : Type 0 where
   pub instance : List ℕ
   pub is_file : IsTextOf (texts series.input.now) instance
   pub answers : List ℕ
   pub are_texts : HasAnswers texts series.told answers
-  pub out : List ℕ
-  pub lines : AreLines series instance answers out
-  pub ends : EndsWriting out writer says status
+  pub lines : WritesAll series instance answers writer
+  pub ends : status ≡ 0
+  pub said : says []
 
--- there are no lines, why is said, and nothing was written
+-- the lines before a stop were written, and why there are no more is said
 pub record EndsStopped (texts : Texts) (series : Series) (writer : DeviceUse)
     (says : List ℕ → Type 0) (status : ℕ) : Type 0 where
   pub instance : List ℕ
@@ -203,8 +238,7 @@ pub record EndsStopped (texts : Texts) (series : Series) (writer : DeviceUse)
   pub answers : List ℕ
   pub are_texts : HasAnswers texts series.told answers
   pub stop : Stop
-  pub is : IsStop series instance answers stop
-  pub unwritten : Keeps writer.before writer.after
+  pub is : WritesUntil series instance answers writer stop
   pub ends : status ≡ status_of_stop stop
   pub said : says (line_of_stop stop)
 

@@ -1,17 +1,20 @@
 //! A line for each of several instances of a weighted tardiness file.
 ghost use Rattle.std.specs.Str.{bytes_eq};
-ghost use Rattle.std.specs.Prelude.{◌≡◌, ◌++◌, ◌-◌, ℕ, List, true, false, IfOk, IfErr, IfSome};
+ghost use Rattle.std.specs.Prelude.{◌≡◌, ◌++◌, ◌-◌, ℕ, List, true, false, IfOk, IfErr, IfSome, OnOk};
 ghost use Rattle.std.specs.Prelude.{MatchResult};
+ghost use Rattle.std.specs.Io.KnownBytes.{Appends};
+ghost use Rattle.tf_export.specs.Entry.{entry};
 ghost use Rattle.tf_options.specs.declared.options.Work.{Work as Asking};
 ghost use Rattle.tf_command.specs.Ending.{SaysLine};
 ghost use Rattle.tf_command.specs.Formatted.{held};
 ghost use Rattle.tf_command.specs.Performing.{Performs};
 ghost use Rattle.tf_command.specs.Wrote.{Wrote};
 ghost use Rattle.tf_text.specs.Counted.{inner_of, use_of};
-ghost use Rattle.tf_held.specs.declared.series.Stop.TheVariants.{Memory};
+ghost use Rattle.tf_held.specs.declared.series.Stop.TheVariants.{Memory, Unwritten};
 ghost use Rattle.tf_command.specs.Unread.{IsUnread};
 ghost use Rattle.tf_held.specs.Texts.{held_texts};
-ghost use Rattle.tf_held.specs.Series.{AreLines, EndsSeries, HasAnswers, IsStop, IsStopAt};
+ghost use Rattle.tf_held.specs.Series.{EndsSeries, HasAnswers, IsStopAt, IsUnwritten};
+ghost use Rattle.tf_held.specs.Series.{WritesAll, WritesUntil};
 ghost use Rattle.tf_held.specs.Series.{IsWorkFor, AreOptionsFor};
 ghost use Rattle.tf_held.specs.Series.{Tells, has_told, instance_line, line_of_stop, no_instance};
 ghost use Rattle.tf_held.specs.Series.{status_of_stop, RunsFor};
@@ -24,12 +27,12 @@ use crate::held::Held;
 use crate::words_split::split_words;
 use std::alloc::Global;
 use std::io::Write;
-use tf_command::commands::{bound_named, evaluate_named, solve_named, write_out};
+use tf_command::commands::{bound_named, evaluate_named, solve_named};
 use tf_command::console::Console;
 use tf_command::formatted::memory;
 use tf_command::gathered::send;
 use tf_command::reading::text_named;
-use tf_command::report::say_memory;
+use tf_command::report::{say_device, say_memory};
 use tf_command::source::Sources;
 use tf_evaluate::evaluation::Detail;
 use tf_export::entry::push_entry;
@@ -38,17 +41,19 @@ use tf_options::options::{Evaluating, FormOption, Options, Telling};
 use tf_options::series::{Series, Told};
 use tf_text::answer::layout::Layout;
 use tf_text::answer::writing::push_number_line;
-use tf_text::counted::Counted;
+use tf_text::counted::{Counted, Device};
 use tf_words::word::is;
 
 /// What a command wrote in memory.
 type Kept = Console<Vec<u8>, Vec<u8>>;
 
-/// Why there are no lines.
+/// Why a series ends before its last line.
 #[derive(Drop)]
 pub enum Stop {
     /// There was no memory.
     Memory,
+    /// A line could not be written.
+    Unwritten,
     /// The command ended for an instance without an answer, with this status, and this is said.
     Ended(u8, Vec<u8>),
 }
@@ -61,9 +66,17 @@ impl From<OutOfMemory> for Stop {
     }
 }
 
+impl From<Device> for Stop {
+    ghost from_gives = { λ _ stop. stop ≡ Unwritten };
+
+    fn from(_: Device) -> Stop {
+        Stop::Unwritten
+    }
+}
+
 /// Tells a line of each instance of a series: its number, and what the command says of it that
-/// solves, bounds or evaluates that instance alone. The lines are written when all are known, and
-/// none is where that command ends for an instance without an answer.
+/// solves, bounds or evaluates that instance alone. Each line is written when it is known, so where
+/// the series ends early, the lines of the instances before stand.
 pub fn perform_series<S: Sources, W: Write, E: Write>(
     console: &mut Console<W, E>,
     sources: &S,
@@ -81,13 +94,14 @@ pub fn perform_series<S: Sources, W: Write, E: Write>(
         Ok(text) => text,
         Err(status) => return status,
     };
-    match lines_of(
+    match write_lines(
         console.alloc,
         series,
         instance.as_slice(),
         answers.as_slice(),
+        &mut console.writer,
     ) {
-        Ok(text) => write_out(console, text.as_slice()),
+        Ok(()) => 0,
         Err(stop) => tell_stop(&stop, &mut console.errors),
     }
 }
@@ -110,17 +124,20 @@ fn answers_named<S: Sources, W: Write, E: Write>(
     }
 }
 
-/// The lines of the instances of a file, in their order.
-fn lines_of(
+/// Writes the lines of the instances of a file, in their order, each when it is known.
+fn write_lines<W: Write>(
     alloc: Global,
     series: &Series<'_>,
     instance: &[u8],
     answers: &[u8],
-) -> Result<Vec<u8>, Stop>
-    ensures { MatchResult result (λ all. AreLines series.now instance.now answers.now all.items)
-        (IsStop series.now instance.now answers.now) }
+    writer: &mut Counted<W>,
+) -> Result<(), Stop>
+    ensures { MatchResult result
+        (λ _. WritesAll series.now instance.now answers.now
+        (use_of W.contents writer.old writer.new))
+        (WritesUntil series.now instance.now answers.now
+        (use_of W.contents writer.old writer.new)) }
 {
-    let mut all = Vec::new(alloc);
     let mut rest = answers;
     let mut ahead = None;
     let first = u64::from(series.span.first);
@@ -135,13 +152,31 @@ fn lines_of(
         };
         let parts = parts_of(series, ahead);
         match told_next(alloc, series, held, parts, number)? {
-            Some(kept) => push_entry(&mut all, number, kept.writer.inner().as_slice())?,
-            None => return Ok(all),
+            Some(kept) => write_entry(alloc, number, kept.writer.inner().as_slice(), writer)?,
+            None => return Ok(()),
         }
         rest = more;
         ahead = Some(behind(series, instance, parts, number));
     }
-    Ok(all)
+    Ok(())
+}
+
+/// Writes the line of the instance of this number, of which a command wrote this text.
+fn write_entry<W: Write>(
+    alloc: Global,
+    number: u32,
+    text: &[u8],
+    writer: &mut Counted<W>,
+) -> Result<(), Stop>
+    ensures written { OnOk result (Appends (W.contents (inner_of writer.old))
+        (W.contents (inner_of writer.new)) (entry number text.now)) }
+    ensures unwritten { IfErr result
+        (IsUnwritten (use_of W.contents writer.old writer.new) (entry number text.now)) }
+{
+    let mut line = Vec::new(alloc);
+    push_entry(&mut line, number, text)?;
+    writer.push_all(line.as_slice())?;
+    Ok(())
 }
 
 /// The words of the next instance, and the text behind them, where it is known which text is ahead.
@@ -327,13 +362,14 @@ fn work_over(kept: &mut Kept, series: &Series<'_>, texts: &Held<'_>, number: u32
     }
 }
 
-/// Says why there are no lines, and gives the status.
+/// Says why there are no more lines, and gives the status.
 fn tell_stop<E: Write>(stop: &Stop, errors: &mut Counted<E>) -> u8
     ensures status { result ≡ status_of_stop stop.now }
     ensures said { Wrote E.contents errors.old errors.new (line_of_stop stop.now) }
 {
     match stop {
         Stop::Memory => say_memory(errors),
+        Stop::Unwritten => say_device(errors),
         Stop::Ended(status, said) => {
             send(errors, said.as_slice());
             *status

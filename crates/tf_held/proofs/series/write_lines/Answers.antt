@@ -1,0 +1,98 @@
+use Rattle.std.proofs.Common.{◌≡◌, ◌+◌, ◌-◌, IfSome, rules, arith, sym, ap, ◌∙◌, subst}
+use Rattle.tf_text.specs.Counted.{inner_of, use_of}
+use Rattle.tf_held.specs.Instances.{IsBehind}
+use Rattle.tf_held.specs.Series.{WritesUntil}
+use Rattle.tf_held.proofs.Again.{runs_has}
+use Rattle.tf_held.proofs.Lines.{begun, come_to_end, cut_off, entry_of, finished, gone_on, stopped}
+use Rattle.tf_held.proofs.series.write_lines.Goals as goal
+
+pub loop-step-init : goal.loop-step-init
+loop-step-init g c = record {
+  told = begun c.args.series.now c.args.instance.now c.args.answers.now
+      (g.W.Write.contents (inner_of c.args.writer.now));
+  known = tt;
+}
+
+pub told_next-requires-clause-parts : goal.told_next-requires-clause-parts
+told_next-requires-clause-parts g c =
+    c.parts_of-parts.ensures c.args.instance.now (c.from-first.result + c.loop-step.step)
+    (subst (λ n. IfSome c.loop-step.ahead (λ text. IsBehind c.args.series.now c.args.instance.now
+    (n + c.loop-step.step - 1) text.now)) (sym c.from-first.ensures) c.loop-step.invariant.known)
+
+pub behind-requires-clause-there : goal.behind-requires-clause-there
+behind-requires-clause-there g c =
+    let tells = rw c.in-Some.is at c.in_ok-kept.ensures in
+    runs_has c.args.series.now c.args.instance.now c.next_answer.result.0.now _ tells.0 _ tells.1
+    tells.3 tells.2
+
+pub behind-requires-clause-parts : goal.behind-requires-clause-parts
+behind-requires-clause-parts g c =
+    c.parts_of-parts.ensures c.args.instance.now (c.from-first.result + c.loop-step.step)
+    (subst (λ n. IfSome c.loop-step.ahead (λ text. IsBehind c.args.series.now c.args.instance.now
+    (n + c.loop-step.step - 1) text.now)) (sym c.from-first.ensures) c.loop-step.invariant.known)
+
+pub loop-step-preserved : goal.loop-step-preserved
+loop-step-preserved g c = record {
+  told = gone_on c.args.series.now c.args.instance.now c.args.answers.now c.loop-step.rest.now
+      c.loop-step.step _ c.next_answer.result.0.now c.next_answer.result.1.now _
+      (g.W.Write.contents (inner_of c.args.writer.now))
+      (g.W.Write.contents (inner_of c.loop-step.writer))
+      (g.W.Write.contents (inner_of c.write_entry.new.writer))
+      c.loop-step.invariant.told (ap (λ n. n + c.loop-step.step) c.from-first.ensures)
+      (entry_of c.args.series.now c.args.instance.now c.next_answer.result.0.now _ c.in-Some.kept
+      c.as_slice.result.now (rw c.in-Some.is at c.in_ok-kept.ensures)
+      (c.as_slice.ensures.value ∙ ap (λ v. v.items) c.inner.ensures))
+      (record { whole = c.next_answer.ensures.whole; after = c.next_answer.ensures.after })
+      c.in_ok-write_entry-in-Some.ensures.written;
+  known =
+      let next : c.from-first.result + c.loop-step.step
+      ≡ c.args.series.now.span.first + (c.loop-step.step + 1) - 1 = omega (arith, c.from-first.ensures) in
+      subst (λ n. IsBehind c.args.series.now c.args.instance.now n c.behind.result.now) next
+      c.behind.ensures;
+}
+
+pub returns : goal.returns
+returns g c =
+    finished c.args.series.now c.args.instance.now c.args.answers.now c.loop-step.rest.now
+    c.loop-step.step (use_of g.W.Write.contents c.args.writer.now c.loop-step.writer)
+    c.loop-step.invariant.told (omega arith)
+
+pub returns-in-None : goal.returns-in-None
+returns-in-None g c =
+    come_to_end c.args.series.now c.args.instance.now c.args.answers.now c.loop-step.rest.now
+    c.next_answer.result.0.now c.next_answer.result.1.now c.loop-step.step _
+    (use_of g.W.Write.contents c.args.writer.now c.loop-step.writer) c.loop-step.invariant.told
+    (ap (λ n. n + c.loop-step.step) c.from-first.ensures)
+    (record { whole = c.next_answer.ensures.whole; after = c.next_answer.ensures.after })
+    (rw c.in-None.is at c.in_ok-kept.ensures)
+
+pub returns-in_err-kept : goal.returns-in_err-kept
+returns-in_err-kept g c =
+    let stops : WritesUntil c.args.series.now c.args.instance.now c.args.answers.now
+    (use_of g.W.Write.contents c.args.writer.now c.loop-step.writer) c.in_err-kept.field-0.0 =
+    stopped c.args.series.now c.args.instance.now c.args.answers.now c.loop-step.rest.now
+    c.next_answer.result.0.now c.next_answer.result.1.now c.loop-step.step _
+    (use_of g.W.Write.contents c.args.writer.now c.loop-step.writer) c.in_err-kept.field-0.0
+    c.loop-step.invariant.told (ap (λ n. n + c.loop-step.step) c.from-first.ensures) (omega arith)
+    (record { whole = c.next_answer.ensures.whole; after = c.next_answer.ensures.after })
+    c.in_err-kept.ensures in
+    search rules
+
+pub returns-in_err-write_entry-in-Some : goal.returns-in_err-write_entry-in-Some
+returns-in_err-write_entry-in-Some g c =
+    let stops : WritesUntil c.args.series.now c.args.instance.now c.args.answers.now
+    (use_of g.W.Write.contents c.args.writer.now c.write_entry.new.writer)
+    c.in_err-write_entry-in-Some.field-0.0 =
+    cut_off c.args.series.now c.args.instance.now c.args.answers.now c.loop-step.rest.now
+    c.next_answer.result.0.now c.next_answer.result.1.now _ c.loop-step.step _
+    (g.W.Write.contents (inner_of c.loop-step.writer))
+    (use_of g.W.Write.contents c.args.writer.now c.write_entry.new.writer)
+    c.in_err-write_entry-in-Some.field-0.0 c.loop-step.invariant.told
+    (ap (λ n. n + c.loop-step.step) c.from-first.ensures)
+    (omega arith)
+    (record { whole = c.next_answer.ensures.whole; after = c.next_answer.ensures.after })
+    (entry_of c.args.series.now c.args.instance.now c.next_answer.result.0.now _ c.in-Some.kept
+    c.as_slice.result.now (rw c.in-Some.is at c.in_ok-kept.ensures)
+    (c.as_slice.ensures.value ∙ ap (λ v. v.items) c.inner.ensures))
+    c.in_err-write_entry-in-Some.ensures.unwritten in
+    search rules
