@@ -182,11 +182,11 @@ def has_labels(words):
     return b"--csv" in words and any(word.startswith(b"--orders") for word in words)
 
 
-def faults_of(name, outcome, allowed, are_labels):
+def faults_of(name, outcome, allowed, are_labels, are_lines):
     """What is wrong with one run by itself."""
     if outcome.status is None or outcome.status not in allowed:
         yield f"{name}: status {outcome.status}"
-    if outcome.status in (2, 3, 5) and outcome.written:
+    if outcome.status in (2, 3, 5) and outcome.written and not are_lines:
         yield f"{name}: status {outcome.status} and {len(outcome.written)} bytes on standard output"
     if has_raw_byte(outcome.said) or has_raw_byte(outcome.written, are_labels):
         yield f"{name}: a raw byte: {outcome.said!r} {outcome.written!r}"
@@ -208,7 +208,7 @@ def faults(words, outcomes):
     allowed = STATUSES.get(words[0].decode("latin-1"), OTHERWISE) if words else OTHERWISE
     plain = outcomes[""]
     for name, outcome in outcomes.items():
-        yield from faults_of(name or "as it is", outcome, allowed, has_labels(words))
+        yield from faults_of(name or "as it is", outcome, allowed, has_labels(words), is_series(words))
         if outcome.status != plain.status:
             yield f"status {plain.status} without {name} and {outcome.status} with it"
     if outcomes.get("--explain", plain).written != plain.written:

@@ -4,7 +4,7 @@
     python3 bench/output_files.py PROGRAM [FILE ..]
 
 Without a FILE all are played. What a session shows on standard output has to stand in the file, and nothing on standard output. Where it shows a refusal or
-another fault, the file has to be as it was: missing, or with its old bytes. What is said on standard error, and the status, are
+another fault and no output, the file has to be as it was: missing, or with its old bytes. What is said on standard error, and the status, are
 those that it shows. Command lines that are wrong, and help, are left out. Then come files that cannot be written, one that is
 the input too, and an output that is empty.
 """
@@ -56,7 +56,7 @@ def session_cases(program, names):
             first, *others = command.words()
             old = OLD if place % 2 else None
             words = [first, ("-o", "--output")[place // 2 % 2], NAME, *others]
-            written = command.output.encode() if command.status in ANSWERED else old
+            written = command.output.encode() if command.output or command.status in ANSWERED else old
             wanted = written, b"", STEPS.sub("", command.errors), command.status
             yield f"{os.path.basename(path)}:{command.number}", wanted, run(program, words, command.texts, old)
 
