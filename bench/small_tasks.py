@@ -54,7 +54,11 @@ class Task:
         if self.env == "J":
             visited = rng.sample(range(self.machines), rng.randint(1, self.machines))
         job = [(machine, rng.randint(self.env in "1P", 3)) for machine in visited]
-        return job if any(time for _, time in job) else [(job[0][0], 1), *job[1:]]
+        # (where no job waits, one of a shop may take no time)
+        may_rest = self.env in "FOJ" and not {"rj", "prec"} & set(self.conditions)
+        if may_rest and rng.random() < 0.1:
+            return [(machine, 0) for machine in visited]
+        return job if may_rest or any(time for _, time in job) else [(job[0][0], 1), *job[1:]]
 
     def is_asked(self, condition):
         return condition in self.conditions
@@ -127,13 +131,13 @@ class Task:
         times = dict(self.jobs[job])
         if self.env in "FOJ" and any(len(part) != times.get(machine, 0) for machine, part in enumerate(rows)):
             return False
-        if all_rows[0] < self.releases[job]:
+        if all_rows and all_rows[0] < self.releases[job]:
             return False
         parts = [part for part in rows if part]
         if not self.is_asked("prmp") and (any(max(part) - min(part) + 1 != len(part) for part in parts)
                                           or self.env == "P" and len(parts) > 1):
             return False
-        if self.is_asked("nwt") and all_rows[-1] - all_rows[0] + 1 != len(all_rows):
+        if self.is_asked("nwt") and all_rows and all_rows[-1] - all_rows[0] + 1 != len(all_rows):
             return False
         visited = [rows[machine] for machine, time in self.jobs[job] if time] if self.env in "FJ" else []
         return all(max(one) < min(other) for one, other in zip(visited, visited[1:]))
@@ -151,7 +155,7 @@ class Task:
         return pieces
 
     def ends(self, pieces):
-        return [max(stop for j, _, _, stop in pieces if j == job) for job in range(len(self.jobs))]
+        return [max((stop for j, _, _, stop in pieces if j == job), default=0) for job in range(len(self.jobs))]
 
 
 def is_one_order(rows, order):
@@ -172,7 +176,10 @@ class Walk:
         self.rest = lru_cache(maxsize=None)(self.rest)
 
     def least(self):
-        return self.rest(0, tuple(tuple(0 for _ in job) for job in self.work))[0]
+        """The least cost, None where there is no timetable. A job of no time is over from the first."""
+        more, is_there = self.rest(0, tuple(tuple(0 for _ in job) for job in self.work))
+        prices = [self.task.price(job, 0) for job, work in enumerate(self.work) if not work]
+        return self.joined(prices + ([] if more is None else [more])) if is_there else None
 
     def is_done(self, job, had):
         return all(done == time for done, (_, time) in zip(had, self.work[job]))
@@ -291,7 +298,7 @@ def wrong(program, task, rng, steps):
         return f"the plan of {plan} is called optimal, and {least} is possible", False
     if not task.fits(pieces) or task.cost(task.ends(pieces)) != plan:
         return "the plan does not fit, or costs something else", False
-    for candidate in filter(is_drawn, (pieces, moved(rng, pieces))):
+    for candidate in filter(is_drawn, (pieces, moved(rng, pieces) if pieces else [])):
         status, text, said = run(program, "evaluate", *options, "--schedule", files=[schedule(candidate), instance])
         if judged_wrong(task, candidate, status, text):
             return f"evaluate ends with {status}: {text}{said}{schedule(candidate)}", False

@@ -1,6 +1,6 @@
 -- The dates that follow by a task's arcs are dates along its arcs, so there is one task at most whose
 -- dates they are.
-use Rattle.std.proofs.Common.{◌≡◌, Bool, true, false, cond, ℕ, ◌+◌, ◌-◌, ◌*◌, ◌≤◌, ◌<◌, ℤ, pos, ◌-ℤ◌, List, length, get_or, map, slice_index, slice_index_or, refl, sym, ap, ◌∙◌, subst, inl, inr, ⊎_elim, Contains, arith}
+use Rattle.std.proofs.Common.{◌≡◌, Bool, true, false, cond, ℕ, ◌+◌, ◌-◌, ◌*◌, ◌≤◌, ◌<◌, ℤ, pos, ◌-ℤ◌, List, length, get_or, map, slice_index, slice_index_or, refl, sym, ap, ◌∙◌, subst, inl, inr, ⊎_elim, Contains, IsTrue, arith}
 use Rattle.std.proofs.lemmas.Bool.{cases_lt}
 use Rattle.std.proofs.lemmas.Grind.{same_number_lists}
 use Rattle.std.proofs.lemmas.Int.{ints}
@@ -11,6 +11,7 @@ use Rattle.tf_model.specs.Whole.{as_time, IsWithin}
 use Rattle.tf_problem.specs.ProblemData.{ProblemData, IsProblemJob, no_problem_job, problem_job, problem_jobs, problem_release, problem_due}
 use Rattle.tf_problem.specs.ProblemBounds.{is_max_goal, problem_work}
 use Rattle.tf_problem.specs.Pushed.{release_in, due_in, pushed, pushed_job, serving_by, AreServingDues}
+use Rattle.tf_problem.proofs.Pushed.{needed-by_arcs}
 use Rattle.tf_bound.specs.declared.pushed.Number.TheVariants.{Tail}
 use Rattle.std.proofs.lemmas.List.FromFn.{get_or-map-range_with_len, length-map-range_with_len}
 use Rattle.tf_bound.specs.Along.{AreAlong, AreAmong, AreDated, AreTimes, AreWithin}
@@ -39,8 +40,8 @@ module _ (k : ProblemData) (sized : IsSized k) (work : List ℕ)
   job_at : (i : ℕ) → i < length k.jobs → IsProblemJob k (i + 1)
   job_at i lt = (omega arith, omega (arith, lt))
 
-  pub times_of : AreTimes (length k.jobs) work
-  times_of = record {
+  pub times_of : IsTrue k.problem.prec → AreTimes (length k.jobs) work
+  times_of prec = record {
     len = all_in_list k sized (problem_work k) work works;
     some = λ i lt. let index : i + 1 - 1 ≡ i = omega arith in
         omega (
@@ -48,7 +49,7 @@ module _ (k : ProblemData) (sized : IsSized k) (work : List ℕ)
           ap (slice_index work) index,
           work_of k sized work works (i + 1) (job_at i lt),
           work_is k sized (i + 1) (job_at i lt),
-          (sized_job k sized (i + 1) (job_at i lt)).some_time,
+          (sized_job k sized (i + 1) (job_at i lt)).some_time (needed-by_arcs k prec),
         );
     small = λ i. ⊎_elim
         (λ lt. let index : i + 1 - 1 ≡ i = omega arith in
@@ -242,7 +243,7 @@ module _ (k : ProblemData) (sized : IsSized k) (work : List ℕ)
 
 -- ---- what the walks are given
 
-module _ (k : ProblemData) (sized : IsSized k) (work : List ℕ)
+module _ (k : ProblemData) (sized : IsSized k) (prec : IsTrue k.problem.prec) (work : List ℕ)
     (works : work ≡ map (problem_work k) (problem_jobs k)) where
   dated : (f : ℕ → ℕ) → ((j : ℕ) → IsProblemJob k j → f j ≤ 2 * limit) → (own : List ℕ)
       → own ≡ map f (problem_jobs k) → (arcs : List (ℕ × ℕ)) → AreAmong (length k.jobs) arcs
@@ -261,7 +262,7 @@ module _ (k : ProblemData) (sized : IsSized k) (work : List ℕ)
               small (i + 1) job,
             ))
             (λ past. omega (arith, get_or_past own i 0 past)) (cases_lt i (length own));
-        times = subst (λ (n : ℕ). AreTimes n work) (sym len) (times_of k sized work works);
+        times = subst (λ (n : ℕ). AreTimes n work) (sym len) (times_of k sized work works prec);
         among = subst (λ (n : ℕ). AreAmong n arcs) (sym len) among;
       }
 
@@ -321,7 +322,7 @@ module _ (k : ProblemData) (sized : IsSized k) where
     its_job j job =
         let at = get_or-map-range_with_len (pushed_job k r d) 1 (length k.jobs) (j - 1) j
         no_problem_job (omega (arith, job.0, job.1)) (omega (arith, job.0)) in
-        let one = subst (IsSizedJob k.problem.env k.machines) at
+        let one = subst (IsSizedJob (pushed k r d).problem k.machines) at
         (its.jobs (j - 1) no_problem_job (omega (
           arith,
           job.0,
@@ -353,18 +354,18 @@ module _ (k : ProblemData) (sized : IsSized k) where
   abbrev work : List ℕ
   work = map (problem_work k) (problem_jobs k)
 
-  heads_same : (r s : List ℕ) → AreHeads k r → AreHeads k s → r ≡ s
-  heads_same r s one other =
+  heads_same : IsTrue k.problem.prec → (r s : List ℕ) → AreHeads k r → AreHeads k s → r ≡ s
+  heads_same prec r s one other =
       let own = map (problem_release k) (problem_jobs k) in
-      let given = dated_heads k sized work refl own refl k.arcs refl in
+      let given = dated_heads k sized prec work refl own refl k.arcs refl in
       same_along own work k.arcs given.times given.among r s
       (along_heads k sized work refl own refl r one) (along_heads k sized work refl own refl s other)
 
-  dues_same : (d e : List ℤ) → AreDeadlines k d → AreDuesWithin d → AreDeadlines k e
-      → AreDuesWithin e → d ≡ e
-  dues_same d e one within other fits =
+  dues_same : IsTrue k.problem.prec → (d e : List ℤ) → AreDeadlines k d → AreDuesWithin d
+      → AreDeadlines k e → AreDuesWithin e → d ≡ e
+  dues_same prec d e one within other fits =
       let own = map (number_by Tail k) (problem_jobs k) in
-      let given = dated_tails k sized work refl own refl (map swap k.arcs) refl in
+      let given = dated_tails k sized prec work refl own refl (map swap k.arcs) refl in
       let same = same_along own work (map swap k.arcs) given.times given.among
       (tails_of k sized work refl d) (tails_of k sized work refl e)
       (along_deadlines k sized work refl own refl d one within)
@@ -398,12 +399,12 @@ module _ (k : ProblemData) (sized : IsSized k) where
       ∙ ap (λ n. slice_index_or e n (pos 0)) index
       ∙ get_or_default e i (pos 0) z (omega (arith, lt, one.len, other.len)))
 
-  moved_same : (d e : List ℤ) → AreMovedDues k d → AreDuesWithin d → AreMovedDues k e
-      → AreDuesWithin e → d ≡ e
-  moved_same d e one within other fits = by (is_max_goal k.problem.goal) one other
+  moved_same : IsTrue k.problem.prec → (d e : List ℤ) → AreMovedDues k d → AreDuesWithin d
+      → AreMovedDues k e → AreDuesWithin e → d ≡ e
+  moved_same prec d e one within other fits = by (is_max_goal k.problem.goal) one other
     where
       by : (m : Bool) → moved_by m k d → moved_by m k e → d ≡ e
-      by true x y = dues_same d e x within y fits
+      by true x y = dues_same prec d e x within y fits
       by false x y = kept_same d e x y
 
   -- no other one is within the limits where the one with these dates is not
@@ -411,9 +412,9 @@ module _ (k : ProblemData) (sized : IsSized k) where
       → (IsSized (pushed k r d) → ⊥) → (other : ProblemData) → IsPushedTask k other → ⊥
   only_pushed r d heads dues within not_sized other is =
       let its : IsSized (pushed k is.r is.d) = subst IsSized is.is is.sized in
-      let same_r = heads_same is.r r is.heads heads in
+      let same_r = heads_same is.moved is.r r is.heads heads in
       let len : length is.d ≡ length k.jobs = moved_len k is.d is.dues in
-      let same_d = moved_same is.d d is.dues (dues_within is.r is.d its len) dues within in
+      let same_d = moved_same is.moved is.d d is.dues (dues_within is.r is.d its len) dues within in
       not_sized (subst (λ (e : List ℤ). IsSized (pushed k r e)) same_d
       (subst (λ (s : List ℕ). IsSized (pushed k s is.d)) same_r its))
 

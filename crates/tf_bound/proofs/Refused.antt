@@ -3,13 +3,9 @@ use Rattle.std.proofs.Common.{◌≡◌, ⊎_elim, ℕ, ◌+◌, ◌≤◌, ◌<
 use Rattle.std.proofs.lemmas.Bool.{false≢true}
 use Rattle.std.proofs.lemmas.List.{get_or_default, take_all}
 use Rattle.std.proofs.lemmas.List.Sums.{sum_by-take-le, get_or-le-sum_by}
-use Rattle.tf_model.specs.declared.problem.Env.{Env}
 use Rattle.tf_model.specs.declared.problem.Problem.{Problem}
 use Rattle.tf_problem.specs.ProblemData.{ProblemData, ProblemJobData, is_job_shop, no_problem_job}
-use Rattle.tf_bound.specs.Route.{IsRouted}
 use Rattle.tf_bound.specs.Sized.{IsSized, IsSizedJob, task_of, work, all_work}
-use Rattle.tf_bound.proofs.Routes.{shop_of_routes}
-use Rattle.tf_bound.proofs.RouteTime.{no_route}
 use Rattle.tf_model.specs.Limit.{limit}
 use Rattle.tf_bound.specs.Refused.{IsFitJob, AreFit, IsUnfitAt, IsTooMuchAt, IsJobsFault, IsCounted, IsInHorizon, AreArcsIn, IsTaskFault}
 use Rattle.tf_bound.proofs.Steps.{sum_next}
@@ -19,42 +15,39 @@ use Rattle.tf_bound.specs.declared.fault.TaskFault.TheVariants.{NotCovered, Jobs
 -- ---- the jobs
 
 -- a job of a job shop without a route is not as the problem asks
-pub unrouted_unfit : (env : Env) → is_job_shop env ≡ true → (x : ProblemJobData) → x.route ≡ []
-    → (machines : ℕ) → IsFitJob env machines x → ⊥
-unrouted_unfit env shop x none machines fit =
-    no_route x.times fit.0.some_time
-    (subst (λ m. IsRouted m x.times []) (sym (fit.0.shop_times (shop_of_routes env shop)))
-    (subst (IsRouted machines x.times) none (fit.0.routed shop)))
+pub unrouted_unfit : (p : Problem) → is_job_shop p.env ≡ true → (x : ProblemJobData)
+    → length x.route ≡ 0 → (machines : ℕ) → IsFitJob p machines x → ⊥
+unrouted_unfit p shop x none machines fit = absurd (omega (arith, fit.0.some_route shop, none))
 
 -- the time of the jobs before one, and the job
-module _ (env : Env) (machines : ℕ) (jobs : List ProblemJobData) (i all : ℕ)
-    (sized : All (IsSizedJob env machines) (take i jobs)) (value : all ≡ sum_by work (take i jobs))
+module _ (p : Problem) (machines : ℕ) (jobs : List ProblemJobData) (i all : ℕ)
+    (sized : All (IsSizedJob p machines) (take i jobs)) (value : all ≡ sum_by work (take i jobs))
     (small : all ≤ limit) (x : ProblemJobData) (lt : i < length jobs) (at : x ≡ get_or jobs i x) where
-  fit_before : AreFit env machines jobs i
+  fit_before : AreFit p machines jobs i
   fit_before = record { sized = sized; total = omega (arith, value, small) }
 
   is_there : x ≡ get_or jobs i no_problem_job
   is_there = at ∙ get_or_default jobs i x no_problem_job lt
 
-  pub unfit_at : (IsFitJob env machines x → ⊥) → IsUnfitAt env machines jobs i
+  pub unfit_at : (IsFitJob p machines x → ⊥) → IsUnfitAt p machines jobs i
   unfit_at unfit = record {
     before = fit_before;
     place = lt;
-    unfit = subst (λ (y : ProblemJobData). IsFitJob env machines y → ⊥) is_there unfit;
+    unfit = subst (λ (y : ProblemJobData). IsFitJob p machines y → ⊥) is_there unfit;
   }
 
-  pub too_much_at : IsSizedJob env machines x → work x ≤ limit → limit < all + work x
-      → IsTooMuchAt env machines jobs i
+  pub too_much_at : IsSizedJob p machines x → work x ≤ limit → limit < all + work x
+      → IsTooMuchAt p machines jobs i
   too_much_at its its_work much = record {
     before = fit_before;
     place = lt;
-    fit = subst (λ (y : ProblemJobData). IsFitJob env machines y) is_there (its, its_work);
+    fit = subst (λ (y : ProblemJobData). IsFitJob p machines y) is_there (its, its_work);
     beyond = omega (arith, much, value, sum_next work jobs i x lt at);
   }
 
 module _ (k : ProblemData) (sized : IsSized k) where
   jobs_fault_not_sized : (f : TaskFault)
-      → IsJobsFault k.problem.env k.machines k.jobs f → ⊥
+      → IsJobsFault k.problem k.machines k.jobs f → ⊥
   jobs_fault_not_sized (Times i) fault =
       fault.unfit (
         sized.jobs i no_problem_job fault.place,
@@ -90,7 +83,7 @@ module _ (k : ProblemData) (sized : IsSized k) where
 
 -- what is wrong with the jobs, where all before is right
 pub jobs_fault : (k : ProblemData) → IsCounted k → (f : TaskFault)
-    → IsJobsFault k.problem.env k.machines k.jobs f → IsTaskFault k f
+    → IsJobsFault k.problem k.machines k.jobs f → IsTaskFault k f
 jobs_fault k counted (Times i) fault = (counted, fault)
 jobs_fault k counted TooLarge fault = (counted, inl fault)
 jobs_fault k counted NotCovered fault = absurd fault
@@ -101,13 +94,13 @@ jobs_fault k counted Arc fault = absurd fault
 -- ---- the parts of a task
 
 module _ (k : ProblemData) (counted : IsCounted k) (all : ℕ) (value : all ≡ all_work k)
-    (small : all ≤ limit) (its : All (IsSizedJob k.problem.env k.machines) k.jobs) where
-  all_fit : AreFit k.problem.env k.machines k.jobs (length k.jobs)
+    (small : all ≤ limit) (its : All (IsSizedJob k.problem k.machines) k.jobs) where
+  all_fit : AreFit k.problem k.machines k.jobs (length k.jobs)
   all_fit =
       let whole : take (length k.jobs) k.jobs ≡ k.jobs =
       take_all (length k.jobs) k.jobs (omega arith) in
       record {
-        sized = subst (λ (ys : List ProblemJobData). All (IsSizedJob k.problem.env k.machines) ys)
+        sized = subst (λ (ys : List ProblemJobData). All (IsSizedJob k.problem k.machines) ys)
             (sym whole) its;
         total = omega (arith, small, value, ap (sum_by work) whole);
       }

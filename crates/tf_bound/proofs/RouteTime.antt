@@ -201,18 +201,3 @@ whole_time times route is =
   where
     same : {a b : ℕ} → a ≡ b → b ≤ a
     same e = omega (arith, e)
-
--- ---- a job with time has a route
-
-some_place : (xs : List ℕ) → 1 ≤ sum xs → (a : ℕ) × (a < length xs) × (1 ≤ slice_index xs a)
-some_place [] some = absurd (omega (arith, some))
-some_place (zero ∷ xs) some =
-    let rest = some_place xs (omega (arith, some, sum_by-cons (λ x. x) 0 xs)) in
-    (suc rest.0, omega (arith, rest.1), rest.2)
-some_place (suc x ∷ xs) some = (0, omega arith, omega arith)
-
-pub no_route : (times : List ℕ) → 1 ≤ sum times → IsRouted (length times) times [] → ⊥
-no_route times some is =
-    let at = some_place times some in
-    let there = is.has_all at.0 at.1 at.2 in
-    omega (arith, there.1)

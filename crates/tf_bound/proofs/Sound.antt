@@ -1,7 +1,7 @@
 -- A task within the limits is sound.
 use Rattle.std.proofs.Common.{◌≡◌, Bool, true, false, not, ◌&&◌, ◌||◌, IsTrue, ℕ, ◌+◌, ◌-◌, ◌≤◌, List, [], ◌∷◌, length, sum, sum_by, slice_index, map, max, cond, refl, sym, ap, ◌∙◌, arith}
 use Rattle.std.specs.List.{fold, range_with_len}
-use Rattle.std.proofs.lemmas.Bool.{and_parts}
+use Rattle.std.proofs.lemmas.Bool.{and_parts, or_left}
 use Rattle.std.proofs.lemmas.List.Sums.{sum_by-cons, get_or-le-sum_by, fold-append}
 use Rattle.std.proofs.lemmas.List.FromFn.{map-range_with_len_more}
 use Rattle.tf_model.specs.Limit.{limit}
@@ -9,7 +9,7 @@ use Rattle.tf_model.specs.ClassTable.{is_shop_env}
 use Rattle.tf_model.proofs.Costs.{sum_by-from}
 use Rattle.tf_model.proofs.Ranges.{sum_by-range_le}
 use Rattle.tf_model.proofs.Sums.{sum_by-same, sum_by-same_all}
-use Rattle.tf_problem.specs.ProblemData.{ProblemData, IsProblemSound, IsProblemJob, problem_job, problem_time, time_over, no_problem_job}
+use Rattle.tf_problem.specs.ProblemData.{ProblemData, IsProblemSound, IsProblemJob, needs_time, problem_job, problem_time, time_over, no_problem_job}
 use Rattle.tf_problem.specs.ProblemData.{problem_jobs, problem_release, is_covered_env, is_covered_goal}
 use Rattle.tf_problem.specs.ProblemBounds.{is_alike, numerator, problem_work}
 use Rattle.tf_problem.proofs.Pushed.{known_env}
@@ -18,7 +18,7 @@ use Rattle.tf_bound.specs.Sized.{IsSized, IsSizedJob, all_work, work}
 
 -- what is known of a job that is there
 pub sized_job : (k : ProblemData) → IsSized k → (j : ℕ) → IsProblemJob k j
-    → IsSizedJob k.problem.env k.machines (problem_job k j)
+    → IsSizedJob k.problem k.machines (problem_job k j)
 sized_job k sized j job = sized.jobs (j - 1) no_problem_job (omega (arith, job.0, job.1))
 
 one_sum : (xs : List ℕ) → length xs ≡ 1 → sum xs ≡ slice_index xs 0
@@ -51,11 +51,11 @@ sound k sized = record {
   one_time = λ shop j job.
       let its = sized_job k sized j job in
       let one = its.one_time shop in
-      (one, omega (arith, its.some_time, one_sum (problem_job k j).times one));
+      (one, omega (arith, its.some_time (outside shop), one_sum (problem_job k j).times one));
   shop_times = λ shop j job.
       let its = sized_job k sized j job in
       let as_many = its.shop_times shop in
-      (as_many, omega (arith, its.some_time, all_times k j as_many));
+      (as_many, λ needed. omega (arith, its.some_time needed, all_times k j as_many));
   routes = λ job_shop j job.
       let its = (sized_job k sized j job).routed job_shop in
       record {
@@ -65,6 +65,11 @@ sound k sized = record {
       };
   arcs_in = sized.arcs_in;
 }
+  where
+    -- outside shops each job takes time
+    outside : is_shop_env k.problem.env ≡ false → IsTrue (needs_time k.problem)
+    outside plain = or_left (not (is_shop_env k.problem.env)) (k.problem.release || k.problem.prec)
+        (ap not plain)
 
 -- the environment is one that the definitions cover
 pub env_is : (k : ProblemData) → IsSized k

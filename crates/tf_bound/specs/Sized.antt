@@ -2,11 +2,10 @@
 use Rattle.std.specs.Prelude.{◌≡◌, ℕ, ◌+◌, ◌≤◌, List, sum, length, IsTrue, IsFalse}
 use Rattle.std.specs.List.{All, sum_by}
 use Rattle.tf_model.specs.ClassTable.{is_single_env, is_shop_env}
-use Rattle.tf_model.specs.declared.problem.Env.{Env}
 use Rattle.tf_model.specs.declared.problem.Problem.{Problem}
 use Rattle.tf_model.specs.Limit.{limit, most_jobs, most_machines}
 use Rattle.tf_model.specs.Whole.{IsWithin}
-use Rattle.tf_problem.specs.ProblemData.{ProblemData, ProblemJobData, IsProblemJob, is_covered, is_job_shop}
+use Rattle.tf_problem.specs.ProblemData.{ProblemData, ProblemJobData, IsProblemJob, is_covered, is_job_shop, needs_time}
 use Rattle.tf_bound.specs.Route.{IsRouted}
 
 -- the task of these parts
@@ -22,13 +21,14 @@ work x = sum x.times
 abbrev pub all_work : ProblemData → ℕ
 all_work k = sum_by work k.jobs
 
--- A job has one time, in a shop one for each machine, and some time in all, and in a job shop a
--- route. Its numbers are within the limit.
-pub record IsSizedJob (env : Env) (machines : ℕ) (x : ProblemJobData) : Type 0 where
-  pub one_time : IsFalse (is_shop_env env) → length x.times ≡ 1
-  pub shop_times : IsTrue (is_shop_env env) → length x.times ≡ machines
-  pub routed : IsTrue (is_job_shop env) → IsRouted machines x.times x.route
-  pub some_time : 1 ≤ work x
+-- A job has one time, in a shop one for each machine, and some time in all where time is needed, and
+-- in a job shop a route, of some machine. Its numbers are within the limit.
+pub record IsSizedJob (p : Problem) (machines : ℕ) (x : ProblemJobData) : Type 0 where
+  pub one_time : IsFalse (is_shop_env p.env) → length x.times ≡ 1
+  pub shop_times : IsTrue (is_shop_env p.env) → length x.times ≡ machines
+  pub routed : IsTrue (is_job_shop p.env) → IsRouted machines x.times x.route
+  pub some_route : IsTrue (is_job_shop p.env) → 1 ≤ length x.route
+  pub some_time : IsTrue (needs_time p) → 1 ≤ work x
   pub weight : x.weight ≤ limit
   pub release : x.release ≤ limit
   pub due : IsWithin x.due
@@ -40,7 +40,7 @@ pub record IsSized (k : ProblemData) : Type 0 where
   pub some_machine : 1 ≤ k.machines
   pub few_machines : k.machines ≤ most_machines
   pub single : IsTrue (is_single_env k.problem.env) → k.machines ≡ 1
-  pub jobs : All (IsSizedJob k.problem.env k.machines) k.jobs
+  pub jobs : All (IsSizedJob k.problem k.machines) k.jobs
   pub arcs_in : All (λ arc. IsProblemJob k arc.0 × IsProblemJob k arc.1) k.arcs
   -- all the work, and the work after any release date
   pub total : all_work k ≤ limit

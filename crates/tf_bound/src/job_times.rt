@@ -1,5 +1,5 @@
 //! The processing times of a job, and in a job shop its route.
-ghost use Rattle.std.specs.Prelude.{◌≡◌, [], length, IfOk, IfSome, IfNone, IsTrue, IsFalse};
+ghost use Rattle.std.specs.Prelude.{◌≡◌, ◌≤◌, [], length, IfOk, IfSome, IfNone, IsTrue, IsFalse};
 ghost use Rattle.tf_bound.specs.JobTimes.{listed, route_in};
 ghost use Rattle.tf_bound.specs.Route.{IsRouted};
 
@@ -44,13 +44,17 @@ impl<A: Allocator> JobTimes<A> {
         }
     }
 
-    // Whether the job has a route.
+    // Whether the job has a route, of some machine.
     pub(crate) fn is_routed(&self) -> bool
         ensures route { IsTrue result →
             IsRouted (length (listed self.now)) (listed self.now) (route_in self.now) }
-        ensures none { IsFalse result → route_in self.now ≡ [] }
+        ensures some { IsTrue result → 1 ≤ length (route_in self.now) }
+        ensures none { IsFalse result → length (route_in self.now) ≡ 0 }
     {
-        self.route().is_some()
+        match self.route() {
+            Some(route) => !route.is_empty(),
+            None => false,
+        }
     }
 
     /// The same times, with memory from elsewhere.

@@ -118,7 +118,8 @@ fn heads<A: Allocator + Copy, B: Allocator>(
     task: &ProblemTask<B>,
     work: &[u64],
 ) -> Result<Option<Vec<u64, A>>, OutOfMemory>
-    requires { work.now ≡ map (problem_work task.now) (problem_jobs task.now) }
+    requires prec { IsTrue task.now.problem.prec }
+    requires work { work.now ≡ map (problem_work task.now) (problem_jobs task.now) }
     ensures { IfOk result (λ found. MatchOption found
         ((r : List ℕ) → AreHeads task.now r → ¬ (AreWithin r))
         (λ dates. AreHeads task.now dates.items)) }
@@ -133,7 +134,8 @@ fn dues<A: Allocator + Copy, B: Allocator>(
     task: &ProblemTask<B>,
     work: &[u64],
 ) -> Result<Option<Vec<i64, A>>, OutOfMemory>
-    requires { work.now ≡ map (problem_work task.now) (problem_jobs task.now) }
+    requires prec { IsTrue task.now.problem.prec }
+    requires work { work.now ≡ map (problem_work task.now) (problem_jobs task.now) }
     ensures { IfOk result (λ found. MatchOption found
         ((d : List ℤ) → AreMovedDues task.now d → ¬ (AreDuesWithin d))
         (λ dues. AreMovedDues task.now dues.items × AreDuesWithin dues.items)) }
@@ -173,7 +175,8 @@ fn deadlines<A: Allocator + Copy, B: Allocator>(
     task: &ProblemTask<B>,
     work: &[u64],
 ) -> Result<Option<Vec<i64, A>>, OutOfMemory>
-    requires { work.now ≡ map (problem_work task.now) (problem_jobs task.now) }
+    requires prec { IsTrue task.now.problem.prec }
+    requires work { work.now ≡ map (problem_work task.now) (problem_jobs task.now) }
     ensures { IfOk result (λ found. MatchOption found
         ((d : List ℤ) → AreDeadlines task.now d → ¬ (AreDuesWithin d))
         (λ dues. AreDeadlines task.now dues.items × AreDuesWithin dues.items)) }

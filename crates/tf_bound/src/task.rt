@@ -4,7 +4,7 @@ ghost use Rattle.std.specs.Prelude.{ℕ, length, IsTrue, IsFalse, MatchResult};
 ghost use Rattle.std.specs.List.{All, sum_by};
 ghost use Rattle.tf_model.specs.ClassTable.{is_single_env, is_flow_env};
 ghost use Rattle.tf_model.specs.Limit.{limit};
-ghost use Rattle.tf_problem.specs.ProblemData.{ProblemData, is_covered, is_job_shop};
+ghost use Rattle.tf_problem.specs.ProblemData.{ProblemData, is_covered, is_job_shop, needs_time};
 ghost use Rattle.tf_bound.specs.Refused.{IsCounted, IsFitJob, IsJobsFault};
 ghost use Rattle.tf_bound.specs.Refused.{IsTaskFault};
 ghost use Rattle.tf_bound.specs.Route.{IsRouted};
@@ -89,6 +89,14 @@ pub fn is_taken(problem: &Problem) -> bool
     env && goal && !problem.block && !problem.rcrc
 }
 
+/// Whether each job has to take some time: outside shops, and wherever a job waits for its release
+/// date or for another job. Else a job of a shop may take none, and is then over from the first.
+pub fn needs_time(problem: &Problem) -> bool
+    ensures { result ≡ needs_time problem.now }
+{
+    !problem.env.is_shop() || problem.release || problem.prec
+}
+
 fn is_single(env: Env) -> bool
     ensures { result ≡ is_single_env env }
 {
@@ -132,23 +140,28 @@ pub(crate) fn sum_within(numbers: &[u64]) -> Option<u64>
 }
 
 // Whether the job is of a job shop and has no route.
-fn is_unrouted<A: Allocator>(env: Env, job: &ProblemJob<A>) -> bool
-    ensures routed { IsFalse result → IsTrue (is_job_shop env) →
+fn is_unrouted<A: Allocator>(problem: &Problem, job: &ProblemJob<A>) -> bool
+    ensures routed { IsFalse result → IsTrue (is_job_shop problem.now.env) →
         IsRouted (length job.now.times) job.now.times job.now.route }
-    ensures unfit { IsTrue result → (machines : ℕ) → ¬ (IsFitJob env machines job.now) }
+    ensures some { IsFalse result → IsTrue (is_job_shop problem.now.env) → 1 ≤ length job.now.route }
+    ensures unfit { IsTrue result → (machines : ℕ) → ¬ (IsFitJob problem.now machines job.now) }
 {
-    is_job_shop(env) && !job.times.is_routed()
+    is_job_shop(problem.env) && !job.times.is_routed()
 }
 
 // The time of a job that is as the problem asks. None where it is not, or its time is beyond the
 // limit.
-fn sized_work<A: Allocator>(env: Env, machines: u32, job: &ProblemJob<A>) -> Option<u64>
-    ensures sized { IfSome result (λ _. IsSizedJob env machines job.now) }
+fn sized_work<A: Allocator>(problem: &Problem, machines: u32, job: &ProblemJob<A>) -> Option<u64>
+    ensures sized { IfSome result (λ _. IsSizedJob problem.now machines job.now) }
     ensures value { IfSome result (λ time. time ≡ work job.now) }
     ensures small { IfSome result (λ time. time ≤ limit) }
-    ensures unfit { IfNone result (¬ (IsFitJob env machines job.now)) }
+    ensures unfit { IfNone result (¬ (IsFitJob problem.now machines job.now)) }
 {
-    let asked = if env.is_shop() { machines as usize } else { 1 };
+    let asked = if problem.env.is_shop() {
+        machines as usize
+    } else {
+        1
+    };
     let times = job.times.as_slice();
     if times.len() != asked {
         return None;
@@ -158,10 +171,10 @@ fn sized_work<A: Allocator>(env: Env, machines: u32, job: &ProblemJob<A>) -> Opt
         return None;
     }
     let work = sum_within(times)?;
-    if work == 0 {
+    if work == 0 && needs_time(problem) {
         return None;
     }
-    if is_unrouted(env, job) {
+    if is_unrouted(problem, job) {
         return None;
     }
     Some(work)
@@ -169,15 +182,19 @@ fn sized_work<A: Allocator>(env: Env, machines: u32, job: &ProblemJob<A>) -> Opt
 
 // The time of all jobs, each of which is as the problem asks; or what is wrong with the first that
 // is not, or with the first time of the jobs up to one.
-fn all_work<A: Allocator>(env: Env, machines: u32, jobs: &[ProblemJob<A>]) -> Result<u64, TaskFault>
-    ensures sized { IfOk result (λ _. All (IsSizedJob env machines) jobs.now) }
+fn all_work<A: Allocator>(
+    problem: &Problem,
+    machines: u32,
+    jobs: &[ProblemJob<A>],
+) -> Result<u64, TaskFault>
+    ensures sized { IfOk result (λ _. All (IsSizedJob problem.now machines) jobs.now) }
     ensures value { IfOk result (λ all. all ≡ sum_by work jobs.now) }
     ensures small { IfOk result (λ all. all ≤ limit) }
-    ensures fault { IfErr result (IsJobsFault env machines jobs.now) }
+    ensures fault { IfErr result (IsJobsFault problem.now machines jobs.now) }
 {
     let mut all: u64 = 0;
     for (place, job) in jobs.iter().enumerate() {
-        let Some(work) = sized_work(env, machines, job) else {
+        let Some(work) = sized_work(problem, machines, job) else {
             return Err(TaskFault::Times(place));
         };
         if work > LIMIT as u64 - all {
@@ -246,7 +263,7 @@ fn judge_parts<A: Allocator>(
         (IsTaskFault (task_of problem.now machines jobs.now arcs.now)) }
 {
     judge_counts(problem, machines, jobs.len())?;
-    let all = all_work(problem.env, machines, jobs)?;
+    let all = all_work(problem, machines, jobs)?;
     if !is_within(jobs, all) {
         return Err(TaskFault::TooLarge);
     }

@@ -10,7 +10,7 @@ use Rattle.tf_model.specs.declared.job.Times.{Times}
 use Rattle.tf_model.specs.declared.job.Times.TheVariants.{One, Two}
 use Rattle.tf_model.specs.declared.problem.Goal.{Goal}
 use Rattle.tf_model.specs.declared.problem.Problem.{Problem}
-use Rattle.tf_problem.specs.ProblemData.{is_job_shop}
+use Rattle.tf_problem.specs.ProblemData.{is_job_shop, needs_time}
 use Rattle.tf_prepare.specs.Preparing.{uses_weight, uses_due}
 use Rattle.tf_listing.specs.declared.listing.Listed.{Listed}
 use Rattle.tf_listing.specs.declared.listing.Listed.TheVariants.{Solved, Bounded}
@@ -43,10 +43,11 @@ abbrev pub takes_time : Times → Bool
 takes_time (One time) = int_lt (pos 0) time
 takes_time (Two first second) = int_lt (pos 0) first || int_lt (pos 0) second
 
--- of a problem that is bounded each job takes time too
+-- of a problem that is bounded each job takes time too, where the problem needs time
 abbrev pub is_listed_for : Listed → Problem → InstanceData → Bool
 is_listed_for Solved p i = has_fields p i
-is_listed_for Bounded p i = has_fields p i && list_all (λ job. takes_time job.times) i.jobs
+is_listed_for Bounded p i =
+    has_fields p i && (not (needs_time p) || list_all (λ job. takes_time job.times) i.jobs)
 
 -- where there is no instance, each problem is listed
 abbrev pub is_listed : Listed → Problem → Option InstanceData → Bool

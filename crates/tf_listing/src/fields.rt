@@ -8,6 +8,7 @@ ghost use Rattle.tf_prepare.specs.Preparing.{uses_weight};
 
 use crate::listing::Listed;
 use std::alloc::Allocator;
+use tf_bound::task::needs_time;
 use tf_model::instance::Instance;
 use tf_model::job::{Job, Times};
 use tf_model::limit::MOST_COSTED_JOBS;
@@ -26,7 +27,10 @@ pub(crate) fn is_listed<A: Allocator>(
         None => true,
         Some(instance) => match listed {
             Listed::Solved => has_fields(problem, instance),
-            Listed::Bounded => has_fields(problem, instance) && all_take_time(instance.jobs()),
+            Listed::Bounded => {
+                has_fields(problem, instance)
+                    && (!needs_time(problem) || all_take_time(instance.jobs()))
+            }
         },
     }
 }

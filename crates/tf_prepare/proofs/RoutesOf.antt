@@ -14,7 +14,7 @@ use Rattle.tf_model.specs.Limit.{most_machines}
 use Rattle.tf_problem.specs.ProblemData.{ProblemData, ProblemJobData}
 use Rattle.tf_routes.specs.declared.route.Step.{Step}
 use Rattle.tf_routes.specs.RoutedData.{AreSteps}
-use Rattle.tf_prepare.specs.Preparing.{is_beyond, is_idle_route, job_in, machines_of, missing_in, much_in, routed_jobs_in, routed_task_in, routes_refusal_in, times_by}
+use Rattle.tf_prepare.specs.Preparing.{is_beyond, is_idle_route, job_in, machines_of, missing_in, much_in, routed_jobs_in, routed_task_in, routes_refusal_in, times_by, where_needed}
 
 -- what holds of each route holds of one of them
 pub of_each : (P : List Step → Type 0) (routes : List (List Step)) (k : ℕ) (route : List Step)
@@ -86,7 +86,8 @@ pub routes_within : (p : Problem) (m : ℕ) (jobs : List JobFields) (routes : Li
 routes_within p m jobs routes none each k d lt =
     let parts = none_of_two (option_map WrongTimes (first_with (is_beyond m) routes))
     (option_or (missing_in p 1 jobs)
-    (option_or (option_map ZeroTime (first_with is_idle_route routes)) (much_in m routes)))
+    (option_or (where_needed p (option_map ZeroTime (first_with is_idle_route routes)))
+    (much_in m routes)))
     (sym none) in
     let fits : All (λ route. is_beyond m route ≡ false) routes =
     none_at (is_beyond m) routes (none_mapped _ _ (none_mapped _ _ parts.0)) in

@@ -19,7 +19,7 @@ use Rattle.tf_model.specs.declared.prepare.Field.{Field}
 use Rattle.tf_model.specs.declared.prepare.Field.TheVariants.{Weight, Due, Release}
 use Rattle.tf_model.specs.declared.prepare.Refusal.{Refusal}
 use Rattle.tf_model.specs.declared.prepare.Refusal.TheVariants.{MachineCount, WrongTimes, MissingField, ZeroTime, TotalTooLarge, OutOfMemory}
-use Rattle.tf_problem.specs.ProblemData.{ProblemData, ProblemJobData, is_job_shop}
+use Rattle.tf_problem.specs.ProblemData.{ProblemData, ProblemJobData, is_job_shop, needs_time}
 use Rattle.tf_routes.specs.declared.route.Step.{Step}
 use Rattle.tf_bound.specs.Sized.{IsSized}
 use Rattle.tf_prepare.specs.TimedData.{TimedData}
@@ -109,11 +109,16 @@ idle_in by_machine place (job ∷ jobs) =
     if is_idle (times_in by_machine place job) then Some (ZeroTime (place + 1))
     else idle_in by_machine (place + 1) jobs
 
+-- a job without any time is refused where the problem needs time of each
+abbrev pub where_needed : Problem → Option Refusal → Option Refusal
+where_needed p refusal = if needs_time p then refusal else None
+
 -- the first reason for the jobs' sake, each kind over all jobs before the next
 abbrev pub jobs_refusal_in : Problem → TimedData → Option Refusal
 jobs_refusal_in p t =
     option_or (wrong_times_in p (is_some t.by_machine) t.instance.jobs)
-    (option_or (missing_in p 1 t.instance.jobs) (idle_in t.by_machine 0 t.instance.jobs))
+    (option_or (missing_in p 1 t.instance.jobs)
+    (where_needed p (idle_in t.by_machine 0 t.instance.jobs)))
 
 -- ---- the task
 
@@ -188,7 +193,8 @@ abbrev pub routes_refusal_in : Problem → ℕ → List JobFields → List (List
 routes_refusal_in p machines jobs routes =
     option_or (option_map WrongTimes (first_with (is_beyond machines) routes))
     (option_or (missing_in p 1 jobs)
-    (option_or (option_map ZeroTime (first_with is_idle_route routes)) (much_in machines routes)))
+    (option_or (where_needed p (option_map ZeroTime (first_with is_idle_route routes)))
+    (much_in machines routes)))
 
 -- the time on each machine: none, but for each step its own
 abbrev pub times_by : ℕ → List Step → List ℕ

@@ -13,7 +13,7 @@ use crate::routed::prepare_routed;
 use crate::timed::{TimedInstance, as_time};
 use std::alloc::{AllocError, Allocator};
 use tf_bound::job_times::JobTimes;
-use tf_bound::task::{ProblemJob, ProblemTask};
+use tf_bound::task::{ProblemJob, ProblemTask, needs_time};
 use tf_model::ids::JobId;
 use tf_model::job::{Job, Times};
 use tf_model::limit::{MOST_JOBS, MOST_MACHINES};
@@ -202,7 +202,11 @@ fn jobs_refusal<A: Allocator>(problem: &Problem, timed: &TimedInstance<A>) -> Op
     if let Some(refusal) = first_missing(problem, jobs) {
         return Some(refusal);
     }
-    first_idle(timed, jobs)
+    if needs_time(problem) {
+        first_idle(timed, jobs)
+    } else {
+        None
+    }
 }
 
 // What the problem uses of a job with these times, and what is neutral for the rest.

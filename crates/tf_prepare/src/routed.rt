@@ -7,6 +7,7 @@ ghost use Rattle.tf_model.specs.Limit.{most_jobs, most_machines};
 ghost use Rattle.tf_model.specs.declared.prepare.Refusal.TheVariants.{WrongTimes, ZeroTime};
 ghost use Rattle.tf_routes.specs.RoutedData.{AreSteps, HasRoutes};
 ghost use Rattle.tf_prepare.specs.Preparing.{greatest_named, greatest_on, is_beyond, is_idle_route};
+ghost use Rattle.tf_prepare.specs.Preparing.{where_needed};
 ghost use Rattle.tf_prepare.specs.Preparing.{is_unrouted, job_in, machines_of, much_in, PreparesIn};
 ghost use Rattle.tf_prepare.specs.Preparing.{routed_in, routed_jobs_in, routed_machines_in};
 ghost use Rattle.tf_prepare.specs.Preparing.{routed_task_in, routes_refusal_in, times_by, IsOfSize};
@@ -15,7 +16,7 @@ use crate::prepare::{agreed, arcs_in, count_in, first_missing, job_in};
 use std::alloc::{AllocError, Allocator};
 use tf_bound::job_times::JobTimes;
 use tf_bound::routed_times::RoutedTimes;
-use tf_bound::task::{ProblemJob, ProblemTask};
+use tf_bound::task::{ProblemJob, ProblemTask, needs_time};
 use tf_model::ids::JobId;
 use tf_model::instance::Instance;
 use tf_model::job::Job;
@@ -103,6 +104,19 @@ fn first_idle<A: Allocator>(routes: &[Route<A>]) -> Option<Refusal>
     }
 }
 
+// The same, where the problem needs time of each job.
+fn idle_refusal<A: Allocator>(problem: &Problem, routes: &[Route<A>]) -> Option<Refusal>
+    requires { length routes.now ≤ most_jobs }
+    ensures { result
+        ≡ where_needed problem.now (option_map ZeroTime (first_with is_idle_route routes.now)) }
+{
+    if needs_time(problem) {
+        first_idle(routes)
+    } else {
+        None
+    }
+}
+
 // Whether a job has no route.
 fn is_unrouted<A: Allocator>(route: &Route<A>) -> bool
     ensures { result ≡ is_unrouted route.now }
@@ -183,7 +197,7 @@ fn routes_refusal<A: Allocator>(
     if let Some(refusal) = first_missing(problem, jobs) {
         return Some(refusal);
     }
-    if let Some(refusal) = first_idle(routes) {
+    if let Some(refusal) = idle_refusal(problem, routes) {
         return Some(refusal);
     }
     much_in(machines, routes)

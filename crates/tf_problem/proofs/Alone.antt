@@ -1,5 +1,5 @@
 -- The bound of sums by each job by itself.
-use Rattle.std.proofs.Common.{ℕ, ◌+◌, ◌≤◌, arith, sum_by, ℤ, pos, ◌≤ℤ◌, IsTrue}
+use Rattle.std.proofs.Common.{ℕ, ◌+◌, ◌-◌, ◌≤◌, ⊎_elim, arith, sum_by, ℤ, pos, ◌≤ℤ◌, IsTrue}
 use Rattle.std.proofs.lemmas.Int.{ints}
 use Rattle.tf_model.specs.Timetable.{Timetable, completion}
 use Rattle.tf_model.proofs.Sums.{sum_by_le_all}
@@ -9,6 +9,7 @@ use Rattle.tf_problem.specs.FitsProblem.{FitsProblem}
 use Rattle.tf_problem.specs.ProblemCost.{problem_cost, penalty, IsLowerBound}
 use Rattle.tf_problem.specs.ProblemBounds.{is_sum_goal, problem_work, alone_cost}
 use Rattle.tf_problem.proofs.Relaxing.{All-problem_jobs, problem_release-le-row}
+use Rattle.tf_problem.proofs.Routes.{timed-or-free}
 use Rattle.tf_problem.proofs.Pushed.{work-le-rows, some_work}
 use Rattle.tf_problem.proofs.Prices.{sum-cost}
 use Rattle.tf_problem.proofs.Rising.{penalty-rises}
@@ -18,15 +19,15 @@ pub work-le-completion : (k : ProblemData) → IsProblemSound k → (rows : Time
     → FitsProblem k rows → (j : ℕ) → IsProblemJob k j
     → problem_release k j + problem_work k j ≤ completion rows j
 work-le-completion k sound rows fits j h =
-    omega (
-      arith,
-      some_work k sound rows fits j h,
-      work-le-rows k sound rows fits j h (problem_release k j) (completion rows j)
-          (λ s i e. (
-            problem_release-le-row k rows fits j h s i e,
-            completion-le-row j h.0 rows s i e,
-          )),
-    )
+    ⊎_elim (λ timed. omega (arith, timed, room)) (λ free. omega (arith, free, room))
+    (timed-or-free k j (problem_work k j) (λ needed. some_work k sound rows fits needed j h))
+  where
+    room : problem_work k j ≤ completion rows j - problem_release k j
+    room = work-le-rows k sound rows fits j h (problem_release k j) (completion rows j)
+        (λ s i e. (
+          problem_release-le-row k rows fits j h s i e,
+          completion-le-row j h.0 rows s i e,
+        ))
 
 pub alone-bound : (k : ProblemData) → IsProblemSound k → IsTrue (is_sum_goal k.problem.goal)
     → IsLowerBound k (pos (alone_cost k))

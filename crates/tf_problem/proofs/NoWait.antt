@@ -17,7 +17,7 @@ use Rattle.tf_problem.specs.ProblemBounds.{is_by_machine}
 use Rattle.tf_problem.specs.Potentials.{start_delay}
 use Rattle.tf_problem.proofs.ProblemLists.{range-append, cell_width}
 use Rattle.tf_problem.proofs.RouteLists.{range-apart, range-below}
-use Rattle.tf_problem.proofs.Routes.{flow_shop, units-on, some_time, over-le-rows, total-le-completion}
+use Rattle.tf_problem.proofs.Routes.{flow_shop, units-on, over-le-rows, total-le-completion}
 use Rattle.tf_problem.proofs.FlowRoutes.{on-flow}
 
 abbrev as_one : Bool → ℕ
@@ -158,7 +158,6 @@ module _ (k : ProblemData) (sound : IsProblemSound k) (flow : IsTrue (is_flow_en
               is,
               low,
               high,
-              some_time k sound rows fits by j job,
               total-le-completion k sound rows fits by j job,
               over-le-rows k sound rows fits by j job (range_with_len 0 k.machines)
                   (range-apart 0 k.machines) (range-below k.machines) (t + 1) c

@@ -1,5 +1,5 @@
 -- Worked examples: what the definitions give on small tasks, and bounds that are reached.
-use Rattle.std.proofs.Common.{◌≡◌, ◌≢◌, Bool, true, false, ℕ, zero, suc, ◌+◌, ◌*◌, ◌≤◌, ◌<◌, ◌==◌, cond, List, [], ◌∷◌, length, slice_index_or, refl, sym, ap, ◌∙◌, subst, ⊎_elim, arith, ℤ, pos, Some, Ok, sum_by, ◌⊎◌, inl, inr, negsuc, ◌-ℤ◌, ◌≤ℤ◌, Contains}
+use Rattle.std.proofs.Common.{◌≡◌, ◌≢◌, Bool, true, false, ℕ, zero, suc, ◌+◌, ◌*◌, ◌≤◌, ◌<◌, ◌==◌, cond, List, [], ◌∷◌, length, slice_index_or, refl, sym, ap, ◌∙◌, subst, ⊎_elim, arith, ℤ, pos, Some, Ok, sum_by, ◌⊎◌, inl, inr, negsuc, ◌-ℤ◌, ◌≤ℤ◌, Contains, IsTrue}
 use Rattle.std.proofs.lemmas.Bool.{false≢true, true≢false, cases_lt, cases_eq}
 use Rattle.std.proofs.lemmas.List.Kept.{AllPairs-cons}
 use Rattle.std.proofs.lemmas.List.Sorted.{Contains-permutation}
@@ -14,7 +14,7 @@ use Rattle.tf_model.specs.Whole.{IsWithin}
 use Rattle.tf_model.specs.Sound.{IsSound}
 use Rattle.tf_check.specs.Claim.{BySplit}
 use Rattle.tf_check.specs.Bound.{bound_by}
-use Rattle.tf_problem.specs.ProblemData.{ProblemData, ProblemJobData, IsProblemSound, IsRoute, IsProblemJob, problem_job, problem_jobs, problem_time, problem_weight, problem_release, problem_due, time_over}
+use Rattle.tf_problem.specs.ProblemData.{ProblemData, ProblemJobData, IsProblemSound, IsRoute, IsProblemJob, needs_time, problem_job, problem_jobs, problem_time, problem_weight, problem_release, problem_due, time_over}
 use Rattle.tf_problem.specs.FitsProblem.{FitsProblem, GoesFirst, IsInOneOrder}
 use Rattle.tf_problem.specs.ProblemCost.{problem_cost, tardiness, unit_penalty, IsLowerBound, IsProblemBest}
 use Rattle.tf_problem.specs.Relaxed.{pair_task}
@@ -141,8 +141,9 @@ flow_sound = record {
   some_machine = omega arith;
   single = λ e. absurd (false≢true e);
   one_time = λ e. absurd (true≢false e);
-  shop_times = λ _. each_three (λ j. (length (problem_job flow j).times ≡ 3) × (1 ≤ time_over flow j 0 3))
-      (refl, omega arith) (refl, omega arith) (refl, omega arith);
+  shop_times = λ _. each_three (λ j. (length (problem_job flow j).times ≡ 3)
+      × (IsTrue (needs_time flow.problem) → 1 ≤ time_over flow j 0 3))
+      (refl, λ _. omega arith) (refl, λ _. omega arith) (refl, λ _. omega arith);
   routes = λ e. absurd (false≢true e);
   arcs_in = All-nil (λ arc. IsProblemJob flow arc.0 × IsProblemJob flow arc.1);
 }
@@ -218,6 +219,54 @@ flow_bound =
 
 flow_best : IsProblemBest flow flow_rows (pos 9)
 flow_best = record { fits = flow_fits; value = flow_cost; least = flow_bound }
+
+-- ---- `F2||sumC`: a job of no time is over from the first
+
+abbrev resting : ProblemData
+resting = record {
+  problem = plain_problem Flow goals.SumC;
+  machines = 2;
+  jobs = passing (0 ∷ 0 ∷ []) ∷ passing (2 ∷ 1 ∷ []) ∷ passing (1 ∷ 0 ∷ []) ∷ [];
+  arcs = [];
+}
+
+resting_sound : IsProblemSound resting
+resting_sound = record {
+  covered = refl;
+  some_job = omega arith;
+  some_machine = omega arith;
+  single = λ e. absurd (false≢true e);
+  one_time = λ e. absurd (true≢false e);
+  shop_times = λ _. each_three (λ j. (length (problem_job resting j).times ≡ 2)
+      × (IsTrue (needs_time resting.problem) → 1 ≤ time_over resting j 0 2))
+      (refl, λ e. absurd (false≢true e)) (refl, λ e. absurd (false≢true e))
+      (refl, λ e. absurd (false≢true e));
+  routes = λ e. absurd (false≢true e);
+  arcs_in = All-nil (λ arc. IsProblemJob resting arc.0 × IsProblemJob resting arc.1);
+}
+
+abbrev resting_rows : Timetable
+resting_rows = (3 ∷ 0 ∷ []) ∷ (2 ∷ 0 ∷ []) ∷ (2 ∷ 0 ∷ []) ∷ (0 ∷ 2 ∷ []) ∷ []
+
+resting_fits : FitsProblem resting resting_rows
+resting_fits =
+    fits-passed resting resting_rows
+    (record {
+      width = refl;
+      jobs_only = refl;
+      once = refl;
+      amount = refl;
+      released = refl;
+      whole = refl;
+      one_place = refl;
+      route = refl;
+      order = refl;
+      arcs = refl;
+      may_wait = refl;
+    })
+
+resting_cost : problem_cost resting resting_rows ≡ pos 5
+resting_cost = refl
 
 -- ---- `1|rj|Lmax`
 
@@ -318,8 +367,9 @@ shop_sound = record {
   some_machine = omega arith;
   single = λ e. absurd (false≢true e);
   one_time = λ e. absurd (true≢false e);
-  shop_times = λ _. each_three (λ j. (length (problem_job shop j).times ≡ 2) × (1 ≤ time_over shop j 0 2))
-      (refl, omega arith) (refl, omega arith) (refl, omega arith);
+  shop_times = λ _. each_three (λ j. (length (problem_job shop j).times ≡ 2)
+      × (IsTrue (needs_time shop.problem) → 1 ≤ time_over shop j 0 2))
+      (refl, λ _. omega arith) (refl, λ _. omega arith) (refl, λ _. omega arith);
   routes = λ _. each_three (λ j. IsRoute shop j (problem_job shop j).route)
       (shop_route 1 0 1 (λ e. omega (arith, e)) (omega arith) (omega arith))
       (shop_route 2 1 0 (λ e. omega (arith, e)) (omega arith) (omega arith))
@@ -561,7 +611,7 @@ chain_bound =
     (inr (3, (1, omega arith, refl), omega (arith, ints))) (inl (omega (arith, ints))))
     (pos 6)
     (one_job-bound (pushed chain chain_releases chain_dues)
-    (pushed-sound chain chain_releases chain_dues chain_sound) refl refl 2
+    (pushed-sound chain chain_releases chain_dues refl chain_sound) refl refl 2
     (omega arith, omega arith))
 
 chain_best : IsProblemBest chain chain_rows (pos 6)
@@ -600,7 +650,7 @@ summed_bound =
     (each_three (λ j. due_in own_dues j ≡ (problem_job summed j).due) refl refl refl)
     (pos 13)
     (alone-bound (pushed summed chain_releases own_dues)
-    (pushed-sound summed chain_releases own_dues summed_sound) refl)
+    (pushed-sound summed chain_releases own_dues refl summed_sound) refl)
 
 -- ---- penalties
 

@@ -14,7 +14,7 @@ use Rattle.tf_model.specs.Timetable.{Timetable, cell, completion}
 use Rattle.tf_model.specs.ClassTable.{is_single_env, is_shop_env}
 use Rattle.tf_model.specs.Feasible.{IsKept}
 use Rattle.tf_model.proofs.Units.{cell_at_completion, completion-le-row, completion-le-length}
-use Rattle.tf_problem.specs.ProblemData.{ProblemData, IsProblemSound, IsProblemJob, problem_job, problem_time, time_over, problem_due, route_by, no_problem_job, is_covered_env, is_covered_goal, IsRoute}
+use Rattle.tf_problem.specs.ProblemData.{ProblemData, IsProblemSound, IsProblemJob, needs_time, problem_job, problem_time, time_over, problem_due, route_by, no_problem_job, is_covered_env, is_covered_goal, IsRoute}
 use Rattle.tf_problem.specs.FitsProblem.{FitsProblem, VisitsFirst}
 use Rattle.tf_problem.specs.ProblemCost.{problem_cost}
 use Rattle.tf_problem.specs.ProblemBounds.{problem_work, is_alike, is_max_goal}
@@ -33,6 +33,12 @@ known_env Unrelated h = absurd (false≢true h)
 known_env Flow h = refl
 known_env OpenShop h = refl
 known_env JobShop h = refl
+
+-- a job that waits for another takes time
+pub needed-by_arcs : (k : ProblemData) → IsTrue k.problem.prec → IsTrue (needs_time k.problem)
+needed-by_arcs k prec =
+    or_right (not (is_shop_env k.problem.env)) (k.problem.release || k.problem.prec)
+    (or_right k.problem.release k.problem.prec prec)
 
 module _ (k : ProblemData) (sound : IsProblemSound k) (rows : Timetable) (fits : FitsProblem k rows) where
   env : IsTrue (is_alike k.problem.env || is_shop_env k.problem.env)
@@ -74,12 +80,13 @@ module _ (k : ProblemData) (sound : IsProblemSound k) (rows : Timetable) (fits :
           let last = cell_at_completion j rows c e in
           omega (arith, e, between c last.0 last.1)
 
-  pub some_work : (j : ℕ) → IsProblemJob k j → 1 ≤ problem_work k j
-  some_work j h = by (is_shop_env k.problem.env) refl
+  -- it takes time where time is needed
+  pub some_work : IsTrue (needs_time k.problem) → (j : ℕ) → IsProblemJob k j → 1 ≤ problem_work k j
+  some_work needed j h = by (is_shop_env k.problem.env) refl
     where
       by : (s : Bool) → is_shop_env k.problem.env ≡ s
           → 1 ≤ cond s (time_over k j 0 k.machines) (problem_time k j)
-      by true shop = (sound.shop_times shop j h).1
+      by true shop = (sound.shop_times shop j h).1 needed
       by false plain = (sound.one_time plain j h).1
 
   kept : IsTrue k.problem.prec → (i j : ℕ) → Contains k.arcs (i, j) → (s t a b : ℕ)
@@ -107,7 +114,7 @@ module _ (k : ProblemData) (sound : IsProblemSound k) (rows : Timetable) (fits :
       work-le-rows i g (release_in r i) t
       (λ s b c. let lt : s < t = kept prec i j by_arc.1 s t b a c e in
       (before i g s b lt c, lt)) in
-      omega (arith, by_arc.2, room, some_work i g))
+      omega (arith, by_arc.2, room, some_work (needed-by_arcs k prec) i g))
       (are j h)
 
   -- no row before it has the job
@@ -128,7 +135,7 @@ module _ (k : ProblemData) (sound : IsProblemSound k) (rows : Timetable) (fits :
       let h : IsProblemJob k j = (job_of_arc i j at).1 in
       omega (
         arith,
-        some_work j h,
+        some_work (needed-by_arcs k prec) j h,
         work-le-rows j h (completion rows i) (completion rows j)
             (λ t b e. (
               by_last (completion rows i) refl t b e,
@@ -161,7 +168,7 @@ module _ (k : ProblemData) (sound : IsProblemSound k) (rows : Timetable) (fits :
       behind-arc prec i j by_arc.1 in
       by_work (completion rows i) (problem_work k j) (completion rows j) (due_in d i) (due_in d j)
       (problem_cost k rows) after by_arc.2
-      (behind j g (omega (arith, after, some_work j g))))
+      (behind j g (omega (arith, after, some_work (needed-by_arcs k prec) j g))))
       (are i h)
     where
       later : (c d e o : ℤ) → d ≤ℤ e → (c -ℤ d) ≤ℤ o → (c -ℤ e) ≤ℤ o
@@ -203,8 +210,8 @@ module _ (k : ProblemData) (r : List ℕ) (d : List ℤ) where
   route j h JobShop = ap (λ x. x.route) (its_job j h)
   route j h _ = refl
 
-  pub pushed-sound : IsProblemSound k → IsProblemSound (pushed k r d)
-  pushed-sound sound = record {
+  pub pushed-sound : IsTrue k.problem.prec → IsProblemSound k → IsProblemSound (pushed k r d)
+  pushed-sound prec sound = record {
     covered = subst (λ (b : Bool). (is_covered_env k.problem.env && b
         && not (k.problem.block || k.problem.rcrc)) ≡ true) (same_goal k.problem.goal) sound.covered;
     some_job = omega (arith, sound.some_job, size);
@@ -218,9 +225,9 @@ module _ (k : ProblemData) (r : List ℕ) (d : List ℤ) where
     shop_times = λ shop j h. let g : IsProblemJob k j = job j h in
         let own = sound.shop_times shop j g in (
           ap length (times j g) ∙ own.0,
-          omega (
+          λ _. omega (
             arith,
-            own.1,
+            own.1 (needed-by_arcs k prec),
             ap (λ xs. sum_by (slice_index xs) (range_with_len 0 k.machines)) (times j g),
           ),
         );

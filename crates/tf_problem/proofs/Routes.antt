@@ -1,7 +1,7 @@
 -- A job on one machine or in a shop: its heads, its tails and its time in all.
-use Rattle.std.proofs.Common.{◌≡◌, ◌≢◌, ◌⊎◌, inl, inr, ℕ, ◌+◌, ◌-◌, ◌≤◌, ◌<◌, slice_index_or, List, [], length, take, drop, refl, sym, ap, ◌∙◌, subst, ⊎_elim, arith, sum_by, All, Contains, IsTrue, length-take, length-drop}
+use Rattle.std.proofs.Common.{◌≡◌, ◌≢◌, ◌⊎◌, inl, inr, Bool, true, false, not, ◌||◌, cond, ℕ, ◌+◌, ◌-◌, ◌≤◌, ◌<◌, slice_index_or, List, [], length, take, drop, refl, sym, ap, ◌∙◌, subst, ⊎_elim, arith, sum_by, All, Contains, IsTrue, length-take, length-drop}
 use Rattle.std.specs.List.{AllPairs, range_with_len}
-use Rattle.std.proofs.lemmas.Bool.{false≢true, or_cases}
+use Rattle.std.proofs.lemmas.Bool.{false≢true, or_cases, or_left, or_right}
 use Rattle.std.proofs.lemmas.List.Elements.{All-take, All-drop}
 use Rattle.tf_model.specs.Timetable.{Timetable, cell, cells_of, units, completion}
 use Rattle.tf_model.specs.ClassTable.{is_single_env, is_shop_env, is_flow_env}
@@ -11,7 +11,7 @@ use Rattle.tf_model.proofs.Units.{completion-le-row}
 use Rattle.tf_model.proofs.Split.{take_cell}
 use Rattle.tf_model.specs.declared.problem.Env.{Env}
 use Rattle.tf_model.specs.declared.problem.Env.TheVariants.{Flow, JobShop}
-use Rattle.tf_problem.specs.ProblemData.{ProblemData, IsProblemSound, IsProblemJob, IsRoute, is_job_shop, route_by, route_of, problem_time_on, time_over, problem_release}
+use Rattle.tf_problem.specs.ProblemData.{ProblemData, IsProblemSound, IsProblemJob, IsRoute, is_job_shop, needs_time, problem_job, route_by, route_of, problem_time_on, time_over, problem_release}
 use Rattle.tf_problem.specs.FitsProblem.{FitsProblem, VisitsFirst}
 use Rattle.tf_problem.specs.ProblemBounds.{before, behind, head, tail, is_by_machine}
 use Rattle.tf_problem.proofs.ProblemLists.{units_before, units_from, units-one, unit_at}
@@ -22,6 +22,17 @@ use Rattle.tf_problem.proofs.Dropped.{single_no_shop}
 pub flow_shop : (e : Env) → IsTrue (is_flow_env e) → IsTrue (is_shop_env e)
 flow_shop Flow h = refl
 flow_shop _ h = absurd (false≢true h)
+
+-- a job that takes time wherever it is needed takes some, or is released at once
+pub timed-or-free : (k : ProblemData) (j n : ℕ) → (IsTrue (needs_time k.problem) → 1 ≤ n)
+    → (1 ≤ n) ⊎ (problem_release k j ≡ 0)
+timed-or-free k j n some = by k.problem.release refl
+  where
+    by : (named : Bool) → k.problem.release ≡ named
+        → (1 ≤ n) ⊎ (cond named (problem_job k j).release 0 ≡ 0)
+    by true is = inl (some (or_right (not (is_shop_env k.problem.env))
+        (k.problem.release || k.problem.prec) (or_left k.problem.release k.problem.prec is)))
+    by false is = inr refl
 
 -- ---- a job on one machine, or in a shop
 
@@ -42,17 +53,17 @@ module _ (k : ProblemData) (sound : IsProblemSound k) (rows : Timetable) (fits :
       (λ shop. (fits.amount j job.0 job.1).on_each shop a in')
       (or_cases (is_single_env k.problem.env) (is_shop_env k.problem.env) by)
 
-  -- and some time in all
-  pub some_time : 1 ≤ time_over k j 0 k.machines
+  -- and some time in all, or it is released at once
+  pub some_time : (1 ≤ time_over k j 0 k.machines) ⊎ (problem_release k j ≡ 0)
   some_time =
       ⊎_elim
-      (λ single. subst (λ m. 1 ≤ time_over k j 0 m) (sym (sound.single single))
+      (λ single. inl (subst (λ m. 1 ≤ time_over k j 0 m) (sym (sound.single single))
       (omega (
         arith,
         (sound.one_time (single_no_shop k.problem.env single) j job).1,
         sum_by-cons (problem_time_on k j) 0 [],
-      )))
-      (λ shop. (sound.shop_times shop j job).1)
+      ))))
+      (λ shop. timed-or-free k j (time_over k j 0 k.machines) (sound.shop_times shop j job).1)
       (or_cases (is_single_env k.problem.env) (is_shop_env k.problem.env) by)
 
   -- where the units of a job on some machines all stand between two rows, they have room there
@@ -95,13 +106,12 @@ module _ (k : ProblemData) (sound : IsProblemSound k) (rows : Timetable) (fits :
   -- a job is released and then has all its time before it completes
   pub total-le-completion : problem_release k j + time_over k j 0 k.machines ≤ completion rows j
   total-le-completion =
-      omega (
-        arith,
-        some_time,
-        over-le-rows (range_with_len 0 k.machines) (range-apart 0 k.machines)
-            (range-below k.machines) (problem_release k j) (completion rows j)
-            (λ p d h. cell_within (slice_index_or (range_with_len 0 k.machines) p d)),
-      )
+      ⊎_elim (λ timed. omega (arith, timed, room)) (λ free. omega (arith, free, room)) some_time
+    where
+      room : time_over k j 0 k.machines ≤ completion rows j - problem_release k j
+      room = over-le-rows (range_with_len 0 k.machines) (range-apart 0 k.machines)
+          (range-below k.machines) (problem_release k j) (completion rows j)
+          (λ p d h. cell_within (slice_index_or (range_with_len 0 k.machines) p d))
 
   -- ---- its route
 

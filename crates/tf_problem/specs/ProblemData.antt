@@ -112,8 +112,14 @@ is_covered_goal _ = true
 abbrev pub is_covered : Problem → Bool
 is_covered p = is_covered_env p.env && is_covered_goal p.goal && not (p.block || p.rcrc)
 
+-- Whether each job has to take some time: outside shops, and wherever a job waits for its release
+-- date or for another job. Else a job of a shop may take none, and is then over from the first.
+abbrev pub needs_time : Problem → Bool
+needs_time p = not (is_shop_env p.env) || (p.release || p.prec)
+
 -- What the task of a problem satisfies: it has a job and a machine, on one machine exactly one, as
--- many times of a job as are asked, in all at least 1, routes in a job shop, and arcs between jobs.
+-- many times of a job as are asked, in all at least 1 where time is needed, routes in a job shop,
+-- and arcs between jobs.
 pub record IsProblemSound (k : ProblemData) : Type 0 where
   pub covered : IsTrue (is_covered k.problem)
   pub some_job : 1 ≤ length k.jobs
@@ -122,7 +128,8 @@ pub record IsProblemSound (k : ProblemData) : Type 0 where
   pub one_time : IsFalse (is_shop_env k.problem.env) → (j : ℕ) → IsProblemJob k j
       → (length (problem_job k j).times ≡ 1) × (1 ≤ problem_time k j)
   pub shop_times : IsTrue (is_shop_env k.problem.env) → (j : ℕ) → IsProblemJob k j
-      → (length (problem_job k j).times ≡ k.machines) × (1 ≤ time_over k j 0 k.machines)
+      → (length (problem_job k j).times ≡ k.machines)
+      × (IsTrue (needs_time k.problem) → 1 ≤ time_over k j 0 k.machines)
   pub routes : IsTrue (is_job_shop k.problem.env) → (j : ℕ) → IsProblemJob k j
       → IsRoute k j (problem_job k j).route
   pub arcs_in : All (λ arc. IsProblemJob k arc.0 × IsProblemJob k arc.1) k.arcs

@@ -6,8 +6,8 @@ use Rattle.tf_bound.proofs.pushed.deadlines.Goals as goal
 
 pub dates_along-requires : goal.dates_along-requires
 dates_along-requires g c =
-    dated_tails c.args.task.now c.arcs.ensures.sized c.args.work.now c.requires c.deref.result.now
-    (c.deref.ensures.value ∙ c.in_ok-own.ensures) c.deref-2.result.now
+    dated_tails c.args.task.now c.arcs.ensures.sized c.requires.prec c.args.work.now c.requires.work
+    c.deref.result.now (c.deref.ensures.value ∙ c.in_ok-own.ensures) c.deref-2.result.now
     (c.deref-2.ensures.value ∙ c.in_ok-back.ensures ∙ ap (map swap) c.arcs.ensures.value)
 
 pub returns-in-Some : goal.returns-in-Some
@@ -27,7 +27,7 @@ returns-in-Some g c =
     subst (λ (dates : List ℕ). AreAlong own work (map swap k.arcs) dates) same
     (subst (λ (back : List (ℕ × ℕ)). AreAlong own work back c.in-Some.tails.items) arcs found.0) in
     let within : AreWithin tails = subst AreWithin same found.1 in (
-      deadlines_along k c.arcs.ensures.sized work c.requires own tails
+      deadlines_along k c.arcs.ensures.sized work c.requires.work own tails
           (c.deref.ensures.value ∙ c.in_ok-own.ensures) along
           c.in_ok-before_limit-in-Some.field-0.items c.in_ok-before_limit-in-Some.ensures,
       back_within tails within c.in_ok-before_limit-in-Some.field-0.items
@@ -47,7 +47,7 @@ returns g c d dues within =
     ((r : List ℕ) → AreAlong own work c.deref-2.result.now r → AreWithin r → ⊥)
     (λ dates. AreAlong own work c.deref-2.result.now dates.items × AreWithin dates.items))
     c.in-None.is c.in_ok-tails.ensures in
-    none (tails_of k sized work c.requires d)
-    (subst (λ (back : List (ℕ × ℕ)). AreAlong own work back (tails_of k sized work c.requires d))
-    (sym arcs) (along_deadlines k sized work c.requires own owns d dues within))
-    (tails_within k sized work c.requires own owns d dues within)
+    none (tails_of k sized work c.requires.work d)
+    (subst (λ (back : List (ℕ × ℕ)). AreAlong own work back (tails_of k sized work c.requires.work d))
+    (sym arcs) (along_deadlines k sized work c.requires.work own owns d dues within))
+    (tails_within k sized work c.requires.work own owns d dues within)

@@ -12,7 +12,7 @@ loop-place-preserved g c =
     let job = c.index-jobs-place.result in
     let told = c.in-Some.ensures in
     record {
-      sized = all_next (IsSizedJob c.args.env c.args.machines) jobs i job c.loop-place-test.true
+      sized = all_next (IsSizedJob c.args.problem.now c.args.machines) jobs i job c.loop-place-test.true
           c.index-jobs-place.is c.loop-place.invariant.sized told.sized;
       value = omega (
         arith,
@@ -27,7 +27,7 @@ pub returns-in_default-clause-fault : goal.returns-in_default-clause-fault
 returns-in_default-clause-fault g c =
     let before = c.loop-place.invariant in
     let told = c.in_default.ensures in
-    unfit_at c.args.env c.args.machines c.args.jobs.now c.loop-place.place c.loop-place.all
+    unfit_at c.args.problem.now c.args.machines c.args.jobs.now c.loop-place.place c.loop-place.all
     before.sized before.value before.small c.index-jobs-place.result c.loop-place-test.true
     c.index-jobs-place.is told.unfit
 
@@ -36,7 +36,7 @@ returns-then-work-all-clause-fault g c =
     let before = c.loop-place.invariant in
     let told = c.in-Some.ensures in (
       c.loop-place.place,
-      too_much_at c.args.env c.args.machines c.args.jobs.now c.loop-place.place c.loop-place.all
+      too_much_at c.args.problem.now c.args.machines c.args.jobs.now c.loop-place.place c.loop-place.all
           before.sized before.value before.small c.index-jobs-place.result c.loop-place-test.true
           c.index-jobs-place.is told.sized (omega (arith, told.value, told.small))
           (omega (arith, told.value, c.if-work-all.true)),
@@ -50,7 +50,7 @@ overflow_add-all g c = omega (arith, c.if-work-all.false, c.loop-place.invariant
 
 pub returns-clause-sized : goal.returns-clause-sized
 returns-clause-sized g c =
-    all_whole (IsSizedJob c.args.env c.args.machines) c.args.jobs.now c.loop-place.place
+    all_whole (IsSizedJob c.args.problem.now c.args.machines) c.args.jobs.now c.loop-place.place
     c.loop-place-test.false c.loop-place.invariant.sized
 
 pub returns-clause-value : goal.returns-clause-value

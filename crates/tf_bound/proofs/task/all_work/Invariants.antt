@@ -5,7 +5,7 @@ use Rattle.tf_bound.proofs.task.all_work.Given as goal
 
 abbrev pub invariant-loop-place : goal.invariant-loop-place
 invariant-loop-place g l = record {
-  sized : All (IsSizedJob l.env l.machines) (take l.place l.jobs);
+  sized : All (IsSizedJob l.problem l.machines) (take l.place l.jobs);
   value : l.all ≡ sum_by work (take l.place l.jobs);
   small : l.all ≤ limit;
 }
