@@ -6,7 +6,7 @@
 FILE is below crates/. Without arguments it is the contracts of run_solve and run_check. From the names in their clauses it
 follows each definition of a specs/ folder to those that it names. A line counts where it is code of a definition: no
 comment, blank line, import or module line. What the kit's library defines is not counted, nor are Rust's own types. The
-second sum leaves out what stands only behind IsByRule, the rules of which optimal answer is given. With -v it prints each
+second sum leaves out what stands only behind ShowsIt: the certificate, the rule and reading back. With -v it prints each
 file with its lines.
 """
 import collections
@@ -136,7 +136,7 @@ def main():
         return sum(len(known[module].definitions[name]) for module, name in found)
 
     found = reached(known, seeds)
-    print(f"{lines(found)} lines, {lines(reached(known, seeds, ['IsByRule']))} without the rules")
+    print(f"{lines(found)} lines, {lines(reached(known, seeds, ['ShowsIt']))} without what shows it")
     if "-v" in sys.argv:
         by_file = collections.Counter()
         for module, name in found:

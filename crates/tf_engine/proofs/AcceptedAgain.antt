@@ -18,7 +18,8 @@ use Rattle.tf_text.proofs.AnswerAgain.{read_again}
 use Rattle.tf_engine.specs.RequestData.{RequestData}
 use Rattle.tf_engine.specs.Faults.{ByText, ByTask}
 use Rattle.tf_engine.specs.Refusal.{refused_by, problem_for, instance_in, task_in, task_for}
-use Rattle.tf_engine.specs.Headline.{IsSolved, Answers}
+use Rattle.tf_engine.specs.Headline.{Answers, ShowsIt, IsAnswered}
+use Rattle.tf_engine.specs.Parts.{IsSolved}
 
 -- what the problem and the text mean is what the request and the text mean
 pub meant_by : (request : RequestData) (problem : Problem) (text : List ℕ)
@@ -70,15 +71,31 @@ meant_class request text problem k ok meant =
     by_instance (Ok i) e = by_task i (prepared i problem request.machines) refl e
     by_instance (Err fault) e = cc
 
--- what solves the text answers it, and is accepted again
-pub answers_of : (request : RequestData) (text : List ℕ) (sheet : SheetData)
+-- what solves the text answers it
+abbrev answers_of : (request : RequestData) (text : List ℕ) (sheet : SheetData)
     → IsSolved request text sheet → Answers request text (answer_text request.layout sheet)
 answers_of request text sheet solved =
     let answer = solved.solved in
     record {
+      task = solved.task;
+      meant = solved.meant;
       sheet = sheet;
-      solved = solved;
+      problem = answer.problem;
+      jobs = answer.jobs;
+      machines = answer.machines;
+      best = answer.best;
       written = refl;
+    }
+
+-- and shows it
+shown_of : (request : RequestData) (text : List ℕ) (sheet : SheetData)
+    (solved : IsSolved request text sheet) → ShowsIt (answers_of request text sheet solved)
+shown_of request text sheet solved =
+    let answer = solved.solved in
+    record {
+      accepted = answer.accepted;
+      rule = answer.rule;
+      readable = answer.readable;
       again = λ fits. record {
         task = solved.task;
         meant = solved.meant;
@@ -96,3 +113,10 @@ answers_of request text sheet solved =
         );
       };
     }
+
+pub answered : (request : RequestData) (text : List ℕ) (sheet : SheetData)
+    → IsSolved request text sheet → IsAnswered request text (answer_text request.layout sheet)
+answered request text sheet solved = (
+  answers_of request text sheet solved,
+  shown_of request text sheet solved,
+)

@@ -23,13 +23,13 @@ use Rattle.tf_engine.specs.Faults.{Refused, Stop, Refuses, Fails, Wants, stop_of
 use Rattle.tf_engine.specs.Passed.{of_write}
 use Rattle.tf_engine.specs.Refusal.{problem_for, instance_in, task_in, task_for}
 use Rattle.tf_engine.specs.CaseParts.{ReadsAsked}
-use Rattle.tf_engine.specs.Parts.{StopsBy, StopsReading}
+use Rattle.tf_engine.specs.Parts.{IsSolved, StopsBy, StopsReading}
 use Rattle.tf_engine.specs.Runs.{Leaves}
 use Rattle.tf_engine.specs.Devices.{LeavesInstance, LeavesRun}
 use Rattle.tf_engine.proofs.Devices.{instance_sound, instance_later, stopped, cut}
-use Rattle.tf_engine.proofs.AcceptedAgain.{answers_of}
+use Rattle.tf_engine.proofs.AcceptedAgain.{answered}
 pub use Rattle.tf_engine.proofs.AcceptedAgain.{meant_by}
-use Rattle.tf_engine.specs.Headline.{IsSolved, Answers, IsRefusedRun, IsRunOf}
+use Rattle.tf_engine.specs.Headline.{IsAnswered, IsRefusedRun, IsRunOf}
 
 -- a list of any length
 list_of : (n : ℕ) → (text : List ℕ) × (length text ≡ n)
@@ -101,7 +101,7 @@ module _ (A : Type 0) (request : RequestData) (reader : DeviceUse) (held : Optio
   run_unsolved text e is h = record {
     text = text;
     is_all = is;
-    outcome = part_stops (Answers request text) (IsRefusedRun request text)
+    outcome = part_stops (IsAnswered request text) (IsRefusedRun request text)
         (IsRefusedRun request text) (reader.failed ≡ true) held writer (λ refused same. same)
         (stop_of e) h;
   }
@@ -114,7 +114,7 @@ pub run_unasked : (A T : Type 0) (request : RequestData) (remaining : T → Opti
 run_unasked A T request remaining old new held writer e h = record {
   text = h.text;
   is_all = h.is_all;
-  outcome = reading_stops (Answers request h.text) (λ refused. task_for request h.text ≡ Err refused)
+  outcome = reading_stops (IsAnswered request h.text) (λ refused. task_for request h.text ≡ Err refused)
       (IsRefusedRun request h.text) (has_failed new ≡ true) (has_failed new ≡ true) held writer
       (λ refused same. inl same) (λ failed. failed) (stop_of e) h.given;
 }
@@ -136,7 +136,7 @@ run_unwritten A request reader writer text sheet writes.Device is solved prefix 
       is_all = is;
       outcome = inr (
         failed,
-        (answer_text request.layout sheet, answers_of request text sheet solved, written),
+        (answer_text request.layout sheet, answered request text sheet solved, written),
       );
     }
 

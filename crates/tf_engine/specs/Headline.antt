@@ -19,33 +19,31 @@ use Rattle.tf_engine.specs.Rules.{IsByRule}
 use Rattle.tf_engine.specs.Runs.{Leaves}
 use Rattle.tf_single.specs.NotSolved.{IsNamedCycle}
 
--- a sheet with the request's problem, the task's sizes, and a best answer, whose certificate shows
--- that it is best, and which is that of the class's rule
-pub record IsSheetFor (request : RequestData) (k : SchedulingTask) (sheet : SheetData) : Type 0
-  where
-    pub problem : problem_for request.problem ≡ Ok sheet.problem
-    pub jobs : sheet.jobs ≡ length k.jobs
-    pub machines : sheet.machines ≡ k.machines
-    pub accepted : IsAccepted k sheet.answer
-    pub best : IsBestAnswer k sheet.answer
-    pub rule : IsByRule k sheet.answer
-    -- the lines of its text say it again
-    pub readable : sheet_of (kept_lines 1 (lines (answer_text request.layout sheet))) ≡ Ok sheet
-
--- the request and the text mean a task, and the sheet answers it
-pub record IsSolved (request : RequestData) (text : List ℕ) (sheet : SheetData) : Type 0 where
+-- The request and the text mean a task. `out` is the text, in the request's layout, of a sheet with
+-- the request's problem, the task's sizes, and an answer that is best.
+pub record Answers (request : RequestData) (text out : List ℕ) : Type 0 where
   pub task : SchedulingTask
   pub meant : task_for request text ≡ Ok task
-  pub solved : IsSheetFor request task sheet
-
--- `out` is the text, in the request's layout, of a sheet that answers the request and the text.
--- Where it is not too long,
--- a check of it for the same request and text accepts it.
-pub record Answers (request : RequestData) (text out : List ℕ) : Type 0 where
   pub sheet : SheetData
-  pub solved : IsSolved request text sheet
+  pub problem : problem_for request.problem ≡ Ok sheet.problem
+  pub jobs : sheet.jobs ≡ length task.jobs
+  pub machines : sheet.machines ≡ task.machines
+  pub best : IsBestAnswer task sheet.answer
   pub written : out ≡ answer_text request.layout sheet
+
+-- What else is known of it: the certificate shows that the answer is best, which is the answer of the
+-- class's rule; and the lines of the text say the sheet again. Where the text is not too long, a
+-- check of it for the same request and instance accepts it.
+pub record ShowsIt {request : RequestData} {text out : List ℕ} (its : Answers request text out)
+    : Type 0 where
+  pub accepted : IsAccepted its.task its.sheet.answer
+  pub rule : IsByRule its.task its.sheet.answer
+  pub readable : sheet_of (kept_lines 1 (lines out)) ≡ Ok its.sheet
   pub again : length out ≤ most_bytes → IsChecked request text out Accepted
+
+-- the text answers, and shows it
+abbrev pub IsAnswered : RequestData → List ℕ → List ℕ → Type 0
+IsAnswered request text out = (its : Answers request text out) × ShowsIt its
 
 -- the request and the text mean a task, and the jobs are the cycle of its arcs that is named
 pub record IsCyclic (request : RequestData) (text : List ℕ) (jobs : List ℕ) : Type 0 where
@@ -68,6 +66,6 @@ pub record IsRunOf {A : Type 0} (request : RequestData) (reader writer : DeviceU
   pub text : List ℕ
   pub is_all : IsTextOf reader.before text
   pub outcome : MatchResult result
-      (λ _. (out : List ℕ) × Answers request text out × Appends writer.before writer.after out)
-      (λ e. Leaves (Answers request text) (IsRefusedRun request text) (reader.failed ≡ true) writer
+      (λ _. (out : List ℕ) × IsAnswered request text out × Appends writer.before writer.after out)
+      (λ e. Leaves (IsAnswered request text) (IsRefusedRun request text) (reader.failed ≡ true) writer
       (stop_of e))

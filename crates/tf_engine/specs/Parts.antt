@@ -1,5 +1,5 @@
 -- What the parts of the runs give.
-use Rattle.std.specs.Prelude.{◌≡◌, ℕ, ◌+◌, ◌≤◌, ◌⊎◌, true, false, List, Option, Result, Ok, Err, MatchResult, OnOk, IfErr}
+use Rattle.std.specs.Prelude.{◌≡◌, ℕ, ◌+◌, ◌≤◌, ◌⊎◌, true, false, List, length, Option, Result, Ok, Err, MatchResult, OnOk, IfErr}
 use Rattle.std.specs.Io.KnownBytes.{IsAtEnd}
 use Rattle.tf_model.specs.InstanceData.{InstanceData}
 use Rattle.tf_model.specs.Limit.{most_bytes}
@@ -10,16 +10,19 @@ use Rattle.tf_model.specs.declared.problem.Problem.{Problem}
 use Rattle.tf_text.specs.declared.counted.Counted.{Counted}
 use Rattle.tf_text.specs.Counted.{inner_of, pulled_of, has_failed, ConsumesAtMost}
 use Rattle.tf_text.specs.Input.{IsTextOf}
-use Rattle.tf_text.specs.AnswerText.{SheetData}
-use Rattle.tf_text.specs.AnswerReading.{answer_in}
+use Rattle.tf_words.specs.Words.{lines, kept_lines}
+use Rattle.tf_text.specs.AnswerText.{SheetData, answer_text}
+use Rattle.tf_text.specs.AnswerReading.{answer_in, sheet_of}
+use Rattle.tf_check.specs.Accepted.{IsAccepted, IsBestAnswer}
+use Rattle.tf_engine.specs.Rules.{IsByRule}
 use Rattle.tf_engine.specs.declared.fault.RunFault.{RunFault}
 use Rattle.tf_engine.specs.Faults.{Refused, ByText, ByTask, ByAnswer, Stop, Refuses, Fails, Wants, is_refusal, is_of_whole, stop_of, end_of}
 use Rattle.tf_engine.specs.Devices.{LeavesReader}
 use Rattle.tf_engine.specs.FormData.{FormData}
-use Rattle.tf_engine.specs.Refusal.{refused_by, instance_in}
+use Rattle.tf_engine.specs.Refusal.{refused_by, instance_in, problem_for, task_for}
 use Rattle.tf_engine.specs.RequestData.{RequestData}
 use Rattle.tf_engine.specs.Checking.{IsOfAnswer}
-use Rattle.tf_engine.specs.Headline.{IsSolved, IsRefusedRun}
+use Rattle.tf_engine.specs.Headline.{IsRefusedRun}
 
 -- why a part stops that reads and writes nothing
 abbrev pub StopsBy : (Refused → Type 0) → Stop → Type 0
@@ -70,6 +73,25 @@ prepared_said problem machines instance = refused_by ByTask (prepared instance p
 -- the task of a problem and the instance that a text of this form holds
 abbrev pub task_said : FormData → Problem → Option ℕ → List ℕ → Result SchedulingTask Refused
 task_said form problem machines text = instance_said form text >>= prepared_said problem machines
+
+-- a sheet with the request's problem, the task's sizes, and a best answer, whose certificate shows
+-- that it is best, and which is that of the class's rule
+pub record IsSheetFor (request : RequestData) (k : SchedulingTask) (sheet : SheetData) : Type 0
+  where
+    pub problem : problem_for request.problem ≡ Ok sheet.problem
+    pub jobs : sheet.jobs ≡ length k.jobs
+    pub machines : sheet.machines ≡ k.machines
+    pub accepted : IsAccepted k sheet.answer
+    pub best : IsBestAnswer k sheet.answer
+    pub rule : IsByRule k sheet.answer
+    -- the lines of its text say it again
+    pub readable : sheet_of (kept_lines 1 (lines (answer_text request.layout sheet))) ≡ Ok sheet
+
+-- the request and the text mean a task, and the sheet answers it
+pub record IsSolved (request : RequestData) (text : List ℕ) (sheet : SheetData) : Type 0 where
+  pub task : SchedulingTask
+  pub meant : task_for request text ≡ Ok task
+  pub solved : IsSheetFor request task sheet
 
 -- a sheet that answers the request and the text, or why there is none
 abbrev pub GivesSheet : {A : Type 0} → RequestData → List ℕ → Result SheetData (RunFault A) → Type 0

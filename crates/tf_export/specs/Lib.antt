@@ -1,3 +1,4 @@
+-- what a caller has to believe
 pub mod Json
 pub mod Members
 pub mod Plan
@@ -5,8 +6,9 @@ pub mod Documents
 pub mod Faults
 pub mod Csv
 pub mod Entry
-pub mod Adds
 pub mod Lines
 pub mod Orders
 pub mod OrderRows
 pub mod Tally
+-- within the crate
+pub mod Adds

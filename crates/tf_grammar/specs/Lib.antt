@@ -1,1 +1,2 @@
+-- what a caller has to believe
 pub mod Commands

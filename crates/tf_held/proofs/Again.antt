@@ -24,7 +24,7 @@ use Rattle.tf_engine.specs.FormData.{FormData, InWt}
 use Rattle.tf_engine.specs.RequestData.{RequestData}
 use Rattle.tf_engine.specs.Refusal.{refused_by, problem_for, task_for}
 use Rattle.tf_engine.specs.Faults.{Refused, ByText, ByTask, Stop, Refuses, Fails, Wants, stop_of}
-use Rattle.tf_engine.specs.Headline.{IsRunOf, IsSheetFor, Answers}
+use Rattle.tf_engine.specs.Headline.{IsRunOf, IsAnswered, Answers, ShowsIt}
 use Rattle.tf_engine.specs.declared.fault.RunFault.{RunFault}
 use Rattle.tf_bounding.specs.RunBounding.{IsBoundingOf, problem_in, problem_task_for}
 use Rattle.tf_evaluate.specs.declared.evaluation.Detail.{Detail}
@@ -100,29 +100,26 @@ module _ (problem : List ℕ) (machines : Option ℕ) (layout : Layout) (jobs : 
         ap (λ r. problem_in problem >>= λ p. (refused_by ByText r >>= λ i. Ok (self_timed i))
         >>= λ timed. refused_by ByTask (prepared_in timed p machines)) same
 
-    sheet_again : (task : SchedulingTask) (sheet : SheetData)
-        → IsSheetFor (asked (InWt jobs m)) task sheet → IsSheetFor (asked (InWt jobs k)) task sheet
-    sheet_again task sheet s = record {
-      problem = s.problem;
-      jobs = s.jobs;
-      machines = s.machines;
-      accepted = s.accepted;
-      best = s.best;
-      rule = s.rule;
-      readable = s.readable;
-    }
-
-    answers_again : (out : List ℕ) → Answers (asked (InWt jobs m)) own out
+    abbrev answers_again : (out : List ℕ) → Answers (asked (InWt jobs m)) own out
         → Answers (asked (InWt jobs k)) file out
     answers_again out a = record {
+      task = a.task;
+      meant = task_same ∙ a.meant;
       sheet = a.sheet;
-      solved = record {
-        task = a.solved.task;
-        meant = task_same ∙ a.solved.meant;
-        solved = sheet_again a.solved.task a.sheet a.solved.solved;
-      };
+      problem = a.problem;
+      jobs = a.jobs;
+      machines = a.machines;
+      best = a.best;
       written = a.written;
-      again = λ fits. let checked = a.again fits in record {
+    }
+
+    shown_again : (out : List ℕ) (a : Answers (asked (InWt jobs m)) own out) → ShowsIt a
+        → ShowsIt (answers_again out a)
+    shown_again out a s = record {
+      accepted = s.accepted;
+      rule = s.rule;
+      readable = s.readable;
+      again = λ fits. let checked = s.again fits in record {
         task = checked.task;
         meant = task_same ∙ checked.meant;
         sheet = checked.sheet;
@@ -130,6 +127,10 @@ module _ (problem : List ℕ) (machines : Option ℕ) (layout : Layout) (jobs : 
         verdict = checked.verdict;
       };
     }
+
+    answered_again : (out : List ℕ) → IsAnswered (asked (InWt jobs m)) own out
+        → IsAnswered (asked (InWt jobs k)) file out
+    answered_again out a = (answers_again out a.0, shown_again out a.0 a.1)
 
     -- what a run over the one writes is what a run over the other writes
     module _ (reader other writer : DeviceUse) (before : reader.before ≡ Some own) where
@@ -146,9 +147,9 @@ module _ (problem : List ℕ) (machines : Option ℕ) (layout : Layout) (jobs : 
         is_all = refl;
         outcome = (
           r.outcome.0,
-          answers_again r.outcome.0
-              (subst (λ text. Answers (asked (InWt jobs m)) text r.outcome.0) (text_is r.text r.is_all)
-              r.outcome.1),
+          answered_again r.outcome.0
+              (subst (λ text. IsAnswered (asked (InWt jobs m)) text r.outcome.0)
+              (text_is r.text r.is_all) r.outcome.1),
           r.outcome.2,
         );
       }

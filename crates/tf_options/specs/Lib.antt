@@ -1,3 +1,4 @@
+-- what a caller has to believe
 pub mod OptionNumber
 pub mod Asking
 pub mod Columns

@@ -1,5 +1,7 @@
+-- what a caller has to believe
 pub mod Asked
 pub mod Commands
 pub mod Replies
-pub mod Units
 pub mod WellFormed
+-- within the crate
+pub mod Units

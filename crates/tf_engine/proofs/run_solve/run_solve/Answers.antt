@@ -8,7 +8,7 @@ use Rattle.tf_engine.specs.Devices.{LeavesRun}
 use Rattle.tf_engine.specs.Faults.{stop_of}
 use Rattle.tf_engine.specs.Headline.{IsRunOf}
 use Rattle.tf_engine.specs.Passed.{of_write}
-use Rattle.tf_engine.proofs.AcceptedAgain.{answers_of}
+use Rattle.tf_engine.proofs.AcceptedAgain.{answered}
 use Rattle.tf_engine.proofs.Devices.{instance_later, instance_sound, stopped, wrote}
 use Rattle.tf_engine.proofs.Unread.{err_is, err_ends, run_unasked, run_unsolved, run_unwritten, cut_short}
 use Rattle.tf_engine.proofs.run_solve.run_solve.Goals as goal
@@ -73,7 +73,7 @@ returns-clause-outcome g c =
       is_all = read.is_all;
       outcome = (
         answer_text c.args.request.now.layout c.in_ok-sheet.sheet,
-        answers_of c.args.request.now read.text c.in_ok-sheet.sheet
+        answered c.args.request.now read.text c.in_ok-sheet.sheet
             (c.in_ok-sheet.ensures read.text read.given),
         subst (λ layout. Appends (g.W.Write.contents (inner_of c.args.writer.now))
             (g.W.Write.contents (inner_of c.write_answer.new.writer))
