@@ -32,7 +32,7 @@ const ofPicture = (name, value) =>
   ({ name, value, allowed: NEGATIVE, needs: "--svg", isBuiltOnly: true });
 
 const inPlaceOfAnswer = (name, value, rivals) =>
-  ({ name, value, rivals: [...rivals, "--certificate", "ANSWER"], isBuiltOnly: true });
+  ({ name, value, rivals: [...rivals, "ANSWER"], isBuiltOnly: true });
 
 /** The rows of each command, in the order of the program's help. */
 const COMMANDS = {
@@ -46,11 +46,11 @@ const COMMANDS = {
     { name: "--bound", value: "FILE", rivals: ["--certificate"], isBuiltOnly: true },
     { ...STEPS, isBuiltOnly: true }, JSON_TEXT, CSV,
     { name: "--tex", isBuiltOnly: true },
-    { name: "--measures", rivals: ["--bound"], isBuiltOnly: true },
+    { name: "--measures", isBuiltOnly: true },
     inPlaceOfAnswer("--order", "JOBS", ["--rule", "--orders"]),
     { ...inPlaceOfAnswer("--rule", "RULE", ["--orders", "--schedule"]),
       choices: ["EDD", "SPT", "LPT", "WSPT", "ERD"] },
-    inPlaceOfAnswer("--orders", "FILE", []),
+    inPlaceOfAnswer("--orders", "FILE", ["--certificate"]),
     { name: "--grade", needs: "--orders", rivals: ["--order", "--rule", "--schedule", "ANSWER"],
       isBuiltOnly: true },
     { name: "--summary", needs: "--orders", rivals: ["--csv", "--order", "--rule", "--schedule", "ANSWER"],

@@ -9,6 +9,7 @@ use test_runs::runs::{Ending, ending_of, ensure, request};
 use tf_assess::measures::{PosedInstance, posed_in};
 use tf_assess::offered::Aids;
 use tf_engine::request::Request;
+use tf_evaluate::evaluation::Detail;
 use tf_model::memory::OutOfMemory;
 use tf_orders::run_orders::{Measuring, OrderForm, OrdersRequest, run_orders};
 use tf_search::effort::{Effort, Nobody};
@@ -32,21 +33,23 @@ struct Case {
 /// In the order 2 1 3 the jobs complete at 4, 1 and 6.
 const ONE_ORDER: Case = Case {
     problem: "1||sumC",
-    form: OrderForm::Single,
+    form: OrderForm::Single(Detail::Summary),
     text: b"2 1 3",
     is_measured: false,
     written: b"evaluation 1\nproblem 1||sumC\njobs 3\nmachines 1\nfits\nvalue 11\nbest 10\n\
         gap 1\njob 1 1 4 4\njob 2 0 1 1\njob 3 4 6 6\nend\n",
 };
 
-/// The same schedule by its pieces.
+/// The same schedule by its pieces, with the arithmetic of the optimum's certificate: in the order
+/// 2 3 1 the jobs wait 0, 1 and 3 time steps.
 const PIECES: Case = Case {
     problem: "1||sumC",
-    form: OrderForm::Pieces,
+    form: OrderForm::Pieces(Detail::WithArithmetic),
     text: b"piece 2 1 0 1\npiece 1 1 1 4\npiece 3 1 4 6\n",
     is_measured: false,
     written: b"evaluation 1\nproblem 1||sumC\njobs 3\nmachines 1\nfits\nvalue 11\nbest 10\n\
-        gap 1\njob 1 1 4 4\njob 2 0 1 1\njob 3 4 6 6\nend\n",
+        gap 1\nstep total weighted processing time 6 + total weighted waiting time in Smith's \
+        order 4 = 10\njob 1 1 4 4\njob 2 0 1 1\njob 3 4 6 6\nend\n",
 };
 
 /// The second order is optimal.
@@ -61,7 +64,7 @@ const TWO_ORDERS: Case = Case {
 /// Machine 2 waits from 1 to 2. No schedule is shorter than job 1.
 const WAITING: Case = Case {
     problem: "P2||Cmax",
-    form: OrderForm::Pieces,
+    form: OrderForm::Pieces(Detail::Summary),
     text: b"piece 1 1 0 3\npiece 2 2 0 1\npiece 3 2 2 4\n",
     is_measured: false,
     written: b"evaluation 1\nproblem P2||Cmax\njobs 3\nmachines 2\nfits\nvalue 4\ngap 1\n\
@@ -81,7 +84,7 @@ const SLIPS: Case = Case {
 /// jobs have neither weights nor due dates.
 const MEASURED_ORDER: Case = Case {
     problem: "1||sumC",
-    form: OrderForm::Single,
+    form: OrderForm::Single(Detail::Summary),
     text: b"2 1 3",
     is_measured: true,
     written: b"evaluation 1\nproblem 1||sumC\njobs 3\nmachines 1\nfits\nvalue 11\nbest 10\n\

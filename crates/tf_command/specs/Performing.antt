@@ -132,17 +132,17 @@ RatesNamed texts options name form offer writer says status =
 
 -- what the orders or pieces are
 abbrev pub source_form : OrderSource → OrderForm
-source_form (Given order) = Single
-source_form (Ruled rule) = ByRule rule
+source_form (Given order detail) = Single detail
+source_form (Ruled rule detail) = ByRule rule detail
 source_form (Named name goes_on is_numbered) = lines_form goes_on is_numbered
-source_form (Drawn name) = Pieces
+source_form (Drawn name detail) = Pieces detail
 
 -- and their text: that of the command line, nothing for a rule, or that of a name
 abbrev pub IsSourceText : Texts → OrderSource → List ℕ → Type 0
-IsSourceText texts (Given order) text = text ≡ order.now
-IsSourceText texts (Ruled rule) text = text ≡ []
+IsSourceText texts (Given order detail) text = text ≡ order.now
+IsSourceText texts (Ruled rule detail) text = text ≡ []
 IsSourceText texts (Named name goes_on is_numbered) text = IsTextOf (texts name.now) text
-IsSourceText texts (Drawn name) text = IsTextOf (texts name.now) text
+IsSourceText texts (Drawn name detail) text = IsTextOf (texts name.now) text
 
 -- the instance that gives the other objectives: what the request and its text mean, where both are
 -- well formed
@@ -179,22 +179,22 @@ abbrev pub RatesOrders : Bool → Texts → Options → OrderSource → Option B
     → (Bool → List ℕ → Type 0) → ℕ → Type 0
 RatesOrders true texts options source offer writer says status =
     RatesMeasured texts options source offer writer (says options.telling.explain) status
-RatesOrders false texts options (Given order) offer writer says status =
+RatesOrders false texts options (Given order detail) offer writer says status =
     let said = says options.telling.explain in
     EndsOver texts options.input.now writer said status
     (λ instance. (reader : DeviceUse) × (reader.before ≡ Some order.now)
-    × EndsRating Global Single offer (requested options Two) None instance reader writer said
-    status)
-RatesOrders false texts options (Ruled rule) offer writer says status =
+    × EndsRating Global (Single detail) offer (requested options Two) None instance reader writer
+    said status)
+RatesOrders false texts options (Ruled rule detail) offer writer says status =
     let said = says options.telling.explain in
     EndsOver texts options.input.now writer said status
     (λ instance. (reader : DeviceUse) × (reader.before ≡ Some [])
-    × EndsRating Global (ByRule rule) offer (requested options Two) None instance reader writer said
-    status)
+    × EndsRating Global (ByRule rule detail) offer (requested options Two) None instance reader
+    writer said status)
 RatesOrders false texts options (Named name goes_on is_numbered) offer writer says status =
     RatesNamed texts options name.now (lines_form goes_on is_numbered) offer writer says status
-RatesOrders false texts options (Drawn name) offer writer says status =
-    RatesNamed texts options name.now Pieces offer writer says status
+RatesOrders false texts options (Drawn name detail) offer writer says status =
+    RatesNamed texts options name.now (Pieces detail) offer writer says status
 
 -- the text of a bound was not read, or says a sheet, beside which orders or pieces are rated
 abbrev pub RatesBeside : Texts → Options → OrderSource → DeviceUse → DeviceUse

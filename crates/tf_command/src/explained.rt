@@ -286,7 +286,7 @@ impl Ended<'_> {
         let Some(pieces) = self.rated_pieces(rated, told) else {
             return Ok(String::new(self.alloc));
         };
-        let schedule = if rated.form == OrderForm::Pieces {
+        let schedule = if matches!(rated.form, OrderForm::Pieces(_)) {
             told.answer.as_ref()
         } else {
             None
@@ -321,10 +321,10 @@ impl Ended<'_> {
             (OrderForm::Lines { .. } | OrderForm::Numbered { .. }, Some(text)) => {
                 explain::not_a_line(self.alloc, text, line, WHAT_AN_ORDER_IS)
             }
-            (OrderForm::Pieces, Some(text)) => {
+            (OrderForm::Pieces(_), Some(text)) => {
                 explain::not_a_line(self.alloc, text, line, WHAT_A_SCHEDULE_IS)
             }
-            (OrderForm::Pieces, None) => String::from_str(self.alloc, WHAT_A_SCHEDULE_IS),
+            (OrderForm::Pieces(_), None) => String::from_str(self.alloc, WHAT_A_SCHEDULE_IS),
             _ => String::from_str(self.alloc, WHAT_AN_ORDER_IS),
         }
     }

@@ -24,6 +24,7 @@ use std::io::{Read, Write};
 use tf_assess::bound_read::bound_read;
 use tf_assess::measures::{PosedInstance, posed_in};
 use tf_assess::offered::Aids;
+use tf_evaluate::evaluation::Detail;
 use tf_model::memory::OutOfMemory;
 use tf_options::aids;
 use tf_options::options::{Options, OrderSource};
@@ -144,8 +145,12 @@ fn rate_plainly<S: Sources, W: Write, E: Write>(
         (λ explain. SaysLine E.contents explain console.old.errors console.new.errors) result }
 {
     match source {
-        OrderSource::Given(order) => rate_given(console, sources, options, order, aids),
-        OrderSource::Ruled(rule) => rate_ruled(console, sources, options, rule, aids),
+        OrderSource::Given(order, detail) => {
+            rate_given(console, sources, options, order, detail, aids)
+        }
+        OrderSource::Ruled(rule, detail) => {
+            rate_ruled(console, sources, options, rule, detail, aids)
+        }
         OrderSource::Named {
             name,
             goes_on,
@@ -154,8 +159,15 @@ fn rate_plainly<S: Sources, W: Write, E: Write>(
             let form = lines_form(goes_on, is_numbered);
             rate_named(console, sources, options, name, form, aids)
         }
-        OrderSource::Drawn(name) => {
-            rate_named(console, sources, options, name, OrderForm::Pieces, aids)
+        OrderSource::Drawn(name, detail) => {
+            rate_named(
+                console,
+                sources,
+                options,
+                name,
+                OrderForm::Pieces(detail),
+                aids,
+            )
         }
     }
 }
@@ -177,10 +189,12 @@ fn rate_given<S: Sources, W: Write, E: Write>(
     sources: &S,
     options: &Options<'_>,
     order: &str,
+    detail: Detail,
     aids: Aids<Nobody>,
 ) -> u8
-    ensures { RatesOrders false (S.text_of sources.now) options.now (OrderSource.Given order.entry)
-        aids.offered (use_of W.contents console.old.writer console.new.writer)
+    ensures { RatesOrders false (S.text_of sources.now) options.now
+        (OrderSource.Given order.entry detail) aids.offered
+        (use_of W.contents console.old.writer console.new.writer)
         (λ explain. SaysLine E.contents explain console.old.errors console.new.errors) result }
 {
     let explain = options.telling.explain;
@@ -191,7 +205,7 @@ fn rate_given<S: Sources, W: Write, E: Write>(
             let order = Recorded::new("--order", order.as_bytes(), most, kept);
             let mut order = Counted::new(order);
             let rates = Rates {
-                form: OrderForm::Single,
+                form: OrderForm::Single(detail),
                 aids,
                 others: None,
             };
@@ -216,9 +230,10 @@ fn rate_ruled<S: Sources, W: Write, E: Write>(
     sources: &S,
     options: &Options<'_>,
     rule: Rule,
+    detail: Detail,
     aids: Aids<Nobody>,
 ) -> u8
-    ensures { RatesOrders false (S.text_of sources.now) options.now (OrderSource.Ruled rule)
+    ensures { RatesOrders false (S.text_of sources.now) options.now (OrderSource.Ruled rule detail)
         aids.offered (use_of W.contents console.old.writer console.new.writer)
         (λ explain. SaysLine E.contents explain console.old.errors console.new.errors) result }
 {
@@ -228,7 +243,7 @@ fn rate_ruled<S: Sources, W: Write, E: Write>(
             let kept = kept_if(console.alloc, explain, 0);
             let mut order = Counted::new(Recorded::new("--rule", b"".as_slice(), 0, kept));
             let rates = Rates {
-                form: OrderForm::Ruled(rule),
+                form: OrderForm::Ruled(rule, detail),
                 aids,
                 others: None,
             };
@@ -320,23 +335,23 @@ fn source_text<S: Sources, W: Write, E: Write>(
         (SaysLine E.contents explain console.old.errors console.new.errors)) }
 {
     match source {
-        OrderSource::Given(order) => match Vec::from_slice(console.alloc, order.as_bytes()) {
+        OrderSource::Given(order, _) => match Vec::from_slice(console.alloc, order.as_bytes()) {
             Ok(text) => Ok(text),
             Err(_) => Err(say_memory(&mut console.errors)),
         },
-        OrderSource::Ruled(_) => Ok(Vec::new(console.alloc)),
+        OrderSource::Ruled(_, _) => Ok(Vec::new(console.alloc)),
         OrderSource::Named { name, .. } => text_named(console, sources, name, explain),
-        OrderSource::Drawn(name) => text_named(console, sources, name, explain),
+        OrderSource::Drawn(name, _) => text_named(console, sources, name, explain),
     }
 }
 
 // What the orders or pieces are called where they are explained.
 fn source_name<'a>(source: &OrderSource<'a>) -> &'a str {
     match source {
-        OrderSource::Given(_) => "--order",
-        OrderSource::Ruled(_) => "--rule",
+        OrderSource::Given(_, _) => "--order",
+        OrderSource::Ruled(_, _) => "--rule",
         OrderSource::Named { name, .. } => name,
-        OrderSource::Drawn(name) => name,
+        OrderSource::Drawn(name, _) => name,
     }
 }
 
@@ -345,14 +360,14 @@ fn source_form(source: &OrderSource<'_>) -> OrderForm
     ensures { result ≡ source_form source.now }
 {
     match source {
-        OrderSource::Given(_) => OrderForm::Single,
-        OrderSource::Ruled(rule) => OrderForm::Ruled(*rule),
+        OrderSource::Given(_, detail) => OrderForm::Single(*detail),
+        OrderSource::Ruled(rule, detail) => OrderForm::Ruled(*rule, *detail),
         OrderSource::Named {
             goes_on,
             is_numbered,
             ..
         } => lines_form(*goes_on, *is_numbered),
-        OrderSource::Drawn(_) => OrderForm::Pieces,
+        OrderSource::Drawn(_, detail) => OrderForm::Pieces(*detail),
     }
 }
 

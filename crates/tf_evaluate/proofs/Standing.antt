@@ -9,14 +9,16 @@ use Rattle.std.proofs.lemmas.List.Sorted.{All-permutation, IsPermutation-sym}
 use Rattle.tf_model.specs.SchedulingTask.{SchedulingTask}
 use Rattle.tf_model.specs.Sound.{IsSound}
 use Rattle.tf_model.specs.Timetable.{Timetable}
+use Rattle.tf_model.specs.Cost.{IsBest}
 use Rattle.tf_model.specs.Feasible.{Fits as FitsTask}
 use Rattle.tf_schedule.specs.declared.fit.Misfit.{Misfit as MisfitOf}
 use Rattle.tf_schedule.specs.declared.piece.Piece.{Piece}
 use Rattle.tf_schedule.specs.Drawing.{drawing, IsOnMachine}
 use Rattle.tf_schedule.proofs.Permuted.{drawing_permutation, drawing_only}
 use Rattle.tf_schedule.proofs.Excludes.{no_misfit}
+use Rattle.tf_check.specs.Accepted.{IsAccepted, IsBestAnswer}
 use Rattle.tf_check.specs.Bound.{bound_by}
-use Rattle.tf_check.specs.Claim.{Claim}
+use Rattle.tf_check.specs.Claim.{AnswerData, Claim}
 use Rattle.tf_check.specs.Judgement.{IsJudged}
 use Rattle.tf_check.specs.Laws.{bound_law}
 use Rattle.tf_check.specs.declared.fault.BoundFault.{BoundFault}
@@ -27,7 +29,9 @@ use Rattle.tf_check.specs.declared.judgement.Fit.{Fit}
 use Rattle.tf_check.specs.declared.judgement.Fit.TheVariants.{Fits, NoSchedule, Misfit}
 use Rattle.tf_evaluate.specs.declared.evaluation.Standing.TheVariants.{Best, Beaten}
 use Rattle.tf_evaluate.specs.EvaluationData.{standing_of}
-use Rattle.tf_evaluate.specs.Evaluating.{IsLeastCost, HasFit, HasStanding, HasGap, ShowsLeast, bound_for}
+use Rattle.tf_evaluate.specs.declared.evaluation.Detail.{Detail}
+use Rattle.tf_evaluate.specs.declared.step.Step.{Step}
+use Rattle.tf_evaluate.specs.Evaluating.{IsLeastCost, HasFit, HasStanding, HasGap, ShowsLeast, bound_for, EndsInBound, IsOptimum, steps_for}
 
 -- ---- a schedule that fits
 
@@ -146,3 +150,37 @@ gap_is k sheet (Some (Fits value)) best (is, (rows, fitting, costs)) (least, is_
 gap_is k sheet None best h least = tt
 gap_is k sheet (Some (NoSchedule fault)) best h least = tt
 gap_is k sheet (Some (Misfit misfit)) best h least = tt
+
+-- ---- the optimum
+
+-- an accepted answer's certificate bounds no more than its value
+pub bounds_value : (k : SchedulingTask) (a : AnswerData) → IsSound k → IsAccepted k a
+    → bound_by a.certificate k ≡ Ok a.value
+bounds_value k a sound is =
+    let same : is.bound ≡ a.value =
+    omega (
+      arith,
+      ints,
+      is.enough,
+      is.value,
+      bound_law a.certificate k is.rows is.bound sound is.bounded is.fits,
+    ) in
+    is.bounded ∙ ap Ok same
+
+-- its value is the optimum, and what comes of the certificate is the optimum's arithmetic
+pub optimum_is : (detail : Detail) (k : SchedulingTask) (a : AnswerData) (best bound : ℤ)
+    (claim : Claim) (steps : List Step) → IsSound k → IsAccepted k a → IsBestAnswer k a
+    → best ≡ a.value → bound ≡ a.value → claim ≡ a.certificate
+    → steps ≡ steps_for detail (Some (Ok bound)) k claim
+    → EndsInBound detail (Some (Ok bound)) steps → IsOptimum detail k best steps
+optimum_is detail k a best bound claim steps sound is is_best best_is bound_is claim_is steps_are
+    ends =
+    let same : bound ≡ best = bound_is ∙ sym best_is in
+    record {
+      least = (is_best.rows, subst (IsBest k is_best.rows) (sym best_is) is_best.best);
+      claim = a.certificate;
+      bounded = bounds_value k a sound is ∙ ap (λ (z : ℤ). Ok z) (sym best_is);
+      steps_are = steps_are ∙ ap (λ (z : ℤ). steps_for detail (Some (Ok z)) k claim) same
+          ∙ ap (steps_for detail (Some (Ok best)) k) claim_is;
+      ends = subst (λ (z : ℤ). EndsInBound detail (Some (Ok z)) steps) same ends;
+    }

@@ -69,6 +69,16 @@ abbrev pub EndsInBound : Detail → Option (Result ℤ BoundFault) → List Step
 EndsInBound WithArithmetic (Some (Ok bound)) steps = last_result None steps ≡ Some bound
 EndsInBound _ _ steps = steps ≡ []
 
+-- the least cost of a timetable that fits, which a certificate bounds, and the arithmetic of that
+-- certificate where it is asked for: its last step comes to the least cost
+pub record IsOptimum (detail : Detail) (k : SchedulingTask) (best : ℤ) (steps : List Step) : Type 0
+  where
+    pub least : IsLeastCost k best
+    pub claim : Claim
+    pub bounded : bound_by claim k ≡ Ok best
+    pub steps_are : steps ≡ steps_for detail (Some (Ok best)) k claim
+    pub ends : EndsInBound detail (Some (Ok best)) steps
+
 -- what happens to the jobs from 1 on, where the pieces make a schedule
 abbrev pub outcomes_for : SchedulingTask → List Piece → Option Fit → List JobOutcome
 outcomes_for k ps None = []

@@ -9,6 +9,7 @@ ghost use Rattle.tf_engine.specs.Checking.{IsFor};
 ghost use Rattle.tf_engine.specs.Solvers.{IsNotSolved};
 ghost use Rattle.tf_evaluate.specs.Evaluating.{EndsInBound, IsBoundOf, IsEvaluation, IsLeastCost};
 ghost use Rattle.tf_evaluate.specs.Evaluating.{HasFit, HasStanding, HasGap, ShowsLeast, bound_for};
+ghost use Rattle.tf_evaluate.specs.Evaluating.{IsOptimum};
 ghost use Rattle.tf_evaluate.specs.Evaluating.{outcomes_for, steps_for};
 ghost use Rattle.tf_evaluate.specs.EvaluationData.{standing_of};
 
@@ -16,7 +17,7 @@ use crate::arithmetic::arithmetic;
 use crate::evaluation::{Detail, Evaluation, JobOutcome};
 use crate::outcomes::outcomes;
 use crate::step::Step;
-use std::alloc::Allocator;
+use std::alloc::{Allocator, Global};
 use tf_check::answer::Answer;
 use tf_check::certificate::Certificate;
 use tf_check::fault::BoundFault;
@@ -93,8 +94,8 @@ fn best_beside<A: Allocator + Copy, B: Allocator>(
     least_cost(alloc, task)
 }
 
-/// The least cost of a timetable that fits. A cycle of arcs is refused, since then none does.
-pub fn least_cost<A: Allocator + Copy, B: Allocator>(
+// The least cost of a timetable that fits. A cycle of arcs is refused, since then none does.
+fn least_cost<A: Allocator + Copy, B: Allocator>(
     alloc: A,
     task: &Task<B>,
 ) -> Result<i64, SolveFault<A>>
@@ -103,6 +104,36 @@ pub fn least_cost<A: Allocator + Copy, B: Allocator>(
 {
     let answer = solve(alloc, task)?;
     Ok(answer.value)
+}
+
+/// The least cost of a timetable that fits, and what shows it.
+#[derive(Drop)]
+pub struct Optimum<A: Allocator = Global> {
+    pub best: i64,
+    /// The arithmetic of a certificate that no timetable costs less; none where it isn't asked for.
+    pub steps: Vec<Step, A>,
+}
+
+/// The optimum of a task. A cycle of arcs is refused, since then no timetable fits.
+pub fn find_optimum<A: Allocator + Copy, B: Allocator>(
+    alloc: A,
+    task: &Task<B>,
+    detail: Detail,
+) -> Result<Optimum<A>, SolveFault<A>>
+    ensures shown { IfOk result (λ o. IsOptimum detail task.now o.best o.steps.items) }
+    ensures refused { IfErr result (IsNotSolved task.now) }
+{
+    // A task of which something is read is sound.
+    let _class = task.class();
+    let answer = solve(alloc, task)?;
+    let Answer {
+        value: best,
+        certificate,
+        ..
+    } = answer;
+    let bound = Some(Ok(i128::from(best)));
+    let steps = steps_of(alloc, task, &certificate, &bound, detail)?;
+    Ok(Optimum { best, steps })
 }
 
 // How an answer stands to a task, and what happens to the jobs.

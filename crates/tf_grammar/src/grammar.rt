@@ -101,19 +101,17 @@ static SCHEDULES: [&str; 4] = ["order", "rule", "orders", "schedule"];
 
 static RULES: [&str; 5] = ["EDD", "SPT", "LPT", "WSPT", "ERD"];
 
-static AGAINST_MEASURES: [&str; 1] = ["bound"];
-
 static AGAINST_BOUND: [&str; 1] = ["certificate"];
 
-static AGAINST_ORDER: [&str; 4] = ["rule", "orders", "certificate", "ANSWER"];
+static AGAINST_ORDER: [&str; 3] = ["rule", "orders", "ANSWER"];
 
-static AGAINST_RULE: [&str; 4] = ["orders", "schedule", "certificate", "ANSWER"];
+static AGAINST_RULE: [&str; 3] = ["orders", "schedule", "ANSWER"];
 
 static AGAINST_ORDERS: [&str; 2] = ["certificate", "ANSWER"];
 
 static AGAINST_GRADE: [&str; 4] = ["order", "rule", "schedule", "ANSWER"];
 
-static AGAINST_SCHEDULE: [&str; 4] = ["order", "orders", "certificate", "ANSWER"];
+static AGAINST_SCHEDULE: [&str; 3] = ["order", "orders", "ANSWER"];
 
 static AGAINST_SIZE: [&str; 2] = ["width", "height"];
 
@@ -271,9 +269,7 @@ fn reported() -> [Row; 7] {
             "tex",
             "Writes for LaTeX what --explain tells of a critical path or a rule",
         ),
-        flag("measures", "Writes the value of every objective too").without(
-            AGAINST_MEASURES.as_slice(),
-        ),
+        flag("measures", "Writes the value of every objective too"),
     ]
 }
 

@@ -29,10 +29,10 @@ abbrev pub ReadsHeld : {R X E : Type 0} → HeldOr R → Result X E → Type 0
 ReadsHeld (Held bytes) result = IsOk result
 ReadsHeld (Other inner) result = Unit {0}
 
--- the instance by its name, and every other text as it is
+-- a text by its name, and every other text as it is
 abbrev pub texts_with : List ℕ → List ℕ → Texts → Texts
-texts_with named instance others name =
-    if bytes_eq name named then Some instance else others name
+texts_with named text others name =
+    if bytes_eq name named then Some text else others name
 
 -- the name of the wanted instance of a flow shop file, where no pair of its machines is named
 abbrev pub whole_name : FormOption → Option (List ℕ)

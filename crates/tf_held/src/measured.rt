@@ -8,15 +8,17 @@ ghost use Rattle.tf_command.specs.Formatted.{IsWritten, IsCutOff};
 ghost use Rattle.tf_held.specs.Measured.{EndsMeasured, MeasuresCounted, MeasuresOver};
 ghost use Rattle.tf_text.specs.AnswerReading.{answer_in};
 ghost use Rattle.tf_text.specs.AnswerText.{SheetData};
-ghost use Rattle.tf_held.specs.Measured.{AreOfAnswer, IsMeasured};
+ghost use Rattle.tf_options.specs.declared.options.Options.{Options};
+ghost use Rattle.tf_held.specs.Measured.{AreOfAnswer, IsMeasured, answer_of, answered_with};
+ghost use Rattle.tf_held.specs.Measured.{options_of, work_of};
+ghost use Rattle.tf_held.specs.Shops.{IsUnder};
 
-use crate::held::Held;
-use crate::shops::{evaluating_under, line_for};
+use crate::shops::{WithText, line_for, under};
 use std::alloc::Global;
 use std::io::Write;
 use tf_assess::measures::{Measures, measures_of, posed_in, with_measures};
 use tf_check::answer::Answer;
-use tf_command::commands::evaluate_named;
+use tf_command::commands::perform;
 use tf_command::console::Console;
 use tf_command::formatted::memory;
 use tf_command::gathered::send;
@@ -25,10 +27,67 @@ use tf_command::report::{say_device, say_memory};
 use tf_command::source::Sources;
 use tf_engine::request::Request;
 use tf_model::memory::OutOfMemory;
-use tf_options::options::Evaluating;
+use tf_options::options::{Assessing, Evaluating, Options, Work};
 use tf_text::answer::fault::AnswerFault;
 use tf_text::answer::layout::Layout;
 use tf_text::answer::reading::read_answer;
+
+/// The evaluation of an answer: by the optimum or the bound that is found, or beside one that a
+/// text offers.
+#[derive(Drop)]
+pub enum Answered<'a> {
+    Alone(Evaluating<'a>),
+    Beside(Assessing<'a>),
+}
+
+impl<'a> Answered<'a> {
+    /// What names the problem and the instance.
+    fn options(&self) -> &Options<'a>
+        ensures { result.now ≡ options_of self.now }
+    {
+        match self {
+            Answered::Alone(evaluating) => &evaluating.options,
+            Answered::Beside(assessing) => &assessing.options,
+        }
+    }
+
+    /// The name of the answer.
+    fn answer(&self) -> &'a str
+        ensures { result.now ≡ answer_of self.now }
+    {
+        match self {
+            Answered::Alone(evaluating) => evaluating.answer,
+            Answered::Beside(assessing) => assessing.answer,
+        }
+    }
+
+    /// The same for another problem line.
+    fn under(self, line: &'a str) -> Answered<'a>
+        ensures { (other : Options) × IsUnder (options_of self.entry) line.now other
+            × (result ≡ answered_with self.entry other) }
+    {
+        match self {
+            Answered::Alone(evaluating) => Answered::Alone(Evaluating {
+                options: under(evaluating.options, line),
+                ..evaluating
+            }),
+            Answered::Beside(assessing) => Answered::Beside(Assessing {
+                options: under(assessing.options, line),
+                ..assessing
+            }),
+        }
+    }
+
+    /// The work that it is.
+    fn into_work(self) -> Work<'a>
+        ensures { result ≡ work_of self.entry }
+    {
+        match self {
+            Answered::Alone(evaluating) => Work::Evaluate(evaluating),
+            Answered::Beside(assessing) => Work::Assess(assessing),
+        }
+    }
+}
 
 /// What an evaluation wrote, with its measures, and its status.
 #[derive(Drop)]
@@ -44,29 +103,26 @@ struct Told {
 pub(crate) fn perform_measured<S: Sources, W: Write, E: Write>(
     console: &mut Console<W, E>,
     sources: &S,
-    evaluating: Evaluating<'_>,
+    answered: Answered<'_>,
 ) -> u8
-    ensures { EndsMeasured (S.text_of sources.now) evaluating.entry
+    ensures { EndsMeasured (S.text_of sources.now) answered.entry
         (use_of W.contents console.old.writer console.new.writer)
         (Wrote E.contents console.old.errors console.new.errors)
-        (SaysLine E.contents evaluating.entry.options.telling.explain console.old.errors
+        (SaysLine E.contents (options_of answered.entry).telling.explain console.old.errors
         console.new.errors) result }
 {
-    let explain = evaluating.options.telling.explain;
-    let instance = match text_named(console, sources, evaluating.options.input, explain) {
+    let options = answered.options();
+    let explain = options.telling.explain;
+    let instance = match text_named(console, sources, options.input, explain) {
         Ok(text) => text,
         Err(status) => return status,
     };
-    let answer = match text_named(console, sources, evaluating.answer, explain) {
+    let answer = match text_named(console, sources, answered.answer(), explain) {
         Ok(text) => text,
         Err(status) => return status,
     };
-    let held = Held {
-        name: evaluating.options.input,
-        instance: instance.as_slice(),
-        other: answer.as_slice(),
-    };
-    match told_of(console.alloc, held, evaluating) {
+    let (instance, answer) = (instance.as_slice(), answer.as_slice());
+    match told_of(console.alloc, sources, instance, answer, answered) {
         Ok(told) => write_told(console, &told),
         Err(_) => say_memory(&mut console.errors),
     }
@@ -90,35 +146,58 @@ fn write_told<W: Write, E: Write>(console: &mut Console<W, E>, told: &Told) -> u
     }
 }
 
-/// What an evaluation over texts in memory writes, with its measures. A shop whose number of
-/// machines is wanted has as many as the instance says.
-fn told_of(alloc: Global, held: Held<'_>, evaluating: Evaluating<'_>) -> Result<Told, OutOfMemory>
-    requires { held.name.now ≡ evaluating.options.input.now }
-    ensures { IfOk result (λ told. MeasuresCounted held.entry.instance.now held.entry.other.now
-        evaluating.entry told.output.items told.errors.items told.status) }
+/// What an evaluation over an instance and an answer in memory writes, with its measures. A shop
+/// whose number of machines is wanted has as many as the instance says.
+fn told_of<S: Sources>(
+    alloc: Global,
+    sources: &S,
+    instance: &[u8],
+    answer: &[u8],
+    answered: Answered<'_>,
+) -> Result<Told, OutOfMemory>
+    ensures { IfOk result (λ told. MeasuresCounted (S.text_of sources.now) instance.now answer.now
+        answered.entry told.output.items told.errors.items told.status) }
 {
-    let line = line_for(alloc, &evaluating.options, held.instance)?;
-    told_over(alloc, held, &evaluating_under(evaluating, line.as_str()))
+    let line = line_for(alloc, answered.options(), instance)?;
+    let answers = WithText {
+        name: answered.answer(),
+        text: answer,
+        others: sources,
+    };
+    let texts = WithText {
+        name: answered.options().input,
+        text: instance,
+        others: &answers,
+    };
+    told_over(
+        alloc,
+        &texts,
+        instance,
+        answer,
+        answered.under(line.as_str()),
+    )
 }
 
 /// What an evaluation for this problem line writes, with its measures.
-fn told_over(
+fn told_over<S: Sources>(
     alloc: Global,
-    held: Held<'_>,
-    evaluating: &Evaluating<'_>,
+    texts: &S,
+    instance: &[u8],
+    answer: &[u8],
+    answered: Answered<'_>,
 ) -> Result<Told, OutOfMemory>
-    requires { held.name.now ≡ evaluating.now.options.input.now }
-    ensures { IfOk result (λ told. MeasuresOver held.entry.instance.now held.entry.other.now
-        evaluating.now told.output.items told.errors.items told.status) }
+    ensures { IfOk result (λ told. MeasuresOver (S.text_of texts.now) instance.now answer.now
+        answered.entry told.output.items told.errors.items told.status) }
 {
-    let request = evaluating.options.request(alloc, Layout::Two)?;
+    let request = answered.options().request(alloc, Layout::Two)?;
     let mut kept = memory(alloc);
-    let status = evaluate_named(&mut kept, &held, evaluating);
+    let status = perform(&mut kept, texts, &answered.into_work());
     if kept.writer.failed() || kept.errors.failed() {
         return Err(OutOfMemory);
     }
+    let text = kept.writer.inner().as_slice();
     Ok(Told {
-        output: measured_text(alloc, &request, held, kept.writer.inner().as_slice())?,
+        output: measured_text(alloc, &request, instance, answer, text)?,
         errors: Vec::from_slice(alloc, kept.errors.inner().as_slice())?,
         status,
     })
@@ -128,13 +207,14 @@ fn told_over(
 fn measured_text(
     alloc: Global,
     request: &Request,
-    held: Held<'_>,
+    instance: &[u8],
+    answer: &[u8],
     text: &[u8],
 ) -> Result<Vec<u8>, OutOfMemory>
-    ensures { IfOk result (λ measured. IsMeasured request.now held.entry.instance.now
-        held.entry.other.now text.now measured.items) }
+    ensures { IfOk result (λ measured. IsMeasured request.now instance.now answer.now text.now
+        measured.items) }
 {
-    let measures = answer_measures(alloc, request, held)?;
+    let measures = answer_measures(alloc, request, instance, answer)?;
     with_measures(Vec::from_slice(alloc, text)?, &measures)
 }
 
@@ -142,14 +222,15 @@ fn measured_text(
 fn answer_measures(
     alloc: Global,
     request: &Request,
-    held: Held<'_>,
+    instance: &[u8],
+    answer: &[u8],
 ) -> Result<Option<Measures>, OutOfMemory>
-    ensures { IfOk result (AreOfAnswer request.now held.entry.instance.now held.entry.other.now) }
+    ensures { IfOk result (AreOfAnswer request.now instance.now answer.now) }
 {
-    let Some(posed) = posed_in(alloc, request, held.instance)? else {
+    let Some(posed) = posed_in(alloc, request, instance)? else {
         return Ok(None);
     };
-    let Some(answer) = answer_said(alloc, held.other)? else {
+    let Some(answer) = answer_said(alloc, answer)? else {
         return Ok(None);
     };
     Ok(Some(measures_of(alloc, &posed, answer.pieces.as_slice())?))

@@ -55,25 +55,25 @@ impl<R: Read> Read for HeldOr<'_, R> {
     }
 }
 
-/// An instance that was read, by its name, and every other text as its source gives it.
+/// A text that was read, by its name, and every other text as its source gives it.
 #[derive(Drop)]
-pub(crate) struct WithInstance<'a, S> {
-    name: &'a str,
-    instance: &'a [u8],
-    others: &'a S,
+pub(crate) struct WithText<'a, S> {
+    pub name: &'a str,
+    pub text: &'a [u8],
+    pub others: &'a S,
 }
 
-impl<'a, S: Sources> Sources for WithInstance<'a, S> {
+impl<'a, S: Sources> Sources for WithText<'a, S> {
     ghost use Rattle.tf_held.specs.Shops.{texts_with};
 
     type Source = HeldOr<'a, S::Source>;
 
     ghost text_of = { λ with.
-        texts_with with.name.now with.instance.now (S.text_of with.others.now) };
+        texts_with with.name.now with.text.now (S.text_of with.others.now) };
 
     fn open(&self, name: &str) -> io::Result<HeldOr<'a, S::Source>> {
         if name == self.name {
-            return Ok(HeldOr::Held(self.instance));
+            return Ok(HeldOr::Held(self.text));
         }
         match self.others.open(name) {
             Ok(source) => Ok(HeldOr::Other(source)),
@@ -83,7 +83,7 @@ impl<'a, S: Sources> Sources for WithInstance<'a, S> {
 
     fn size(&self, name: &str) -> Option<usize> {
         if name == self.name {
-            Some(self.instance.len())
+            Some(self.text.len())
         } else {
             self.others.size(name)
         }
@@ -114,9 +114,9 @@ pub(crate) fn perform_counted<S: Sources, W: Write, E: Write>(
     let Ok(line) = line_for(console.alloc, options, instance.as_slice()) else {
         return say_memory(&mut console.errors);
     };
-    let texts = WithInstance {
+    let texts = WithText {
         name: input,
-        instance: instance.as_slice(),
+        text: instance.as_slice(),
         others: sources,
     };
     perform(console, &texts, &work_under(work, line.as_str()))
@@ -249,7 +249,10 @@ fn work_under<'a>(work: Work<'a>, line: &'a str) -> Work<'a>
 {
     match work {
         Work::Plan(options, layout, steps) => Work::Plan(under(options, line), layout, steps),
-        Work::Evaluate(evaluating) => Work::Evaluate(evaluating_under(evaluating, line)),
+        Work::Evaluate(evaluating) => Work::Evaluate(Evaluating {
+            options: under(evaluating.options, line),
+            ..evaluating
+        }),
         Work::Assess(assessing) => Work::Assess(Assessing {
             options: under(assessing.options, line),
             ..assessing
@@ -259,19 +262,8 @@ fn work_under<'a>(work: Work<'a>, line: &'a str) -> Work<'a>
     }
 }
 
-/// The same evaluation of an answer, with another problem line.
-pub(crate) fn evaluating_under<'a>(evaluating: Evaluating<'a>, line: &'a str) -> Evaluating<'a>
-    ensures { (other : Options) × IsUnder evaluating.entry.options line.now other
-        × (result ≡ record evaluating.entry { options = other }) }
-{
-    Evaluating {
-        options: under(evaluating.options, line),
-        ..evaluating
-    }
-}
-
 /// The same options, with another problem line.
-fn under<'a>(options: Options<'a>, line: &'a str) -> Options<'a>
+pub(crate) fn under<'a>(options: Options<'a>, line: &'a str) -> Options<'a>
     ensures { IsUnder options.entry line.now result }
 {
     Options {

@@ -87,12 +87,12 @@ abbrev pub source_in_format : Options → OrderSource → Aids → Format → As
 source_in_format options (Named name goes_on is_numbered) aids format =
     Formatted (Rate options (Named name goes_on true) aids)
     (orders_format format options.telling.measures)
-source_in_format options (Given order) aids format =
-    Formatted (Rate options (Given order) aids) format
-source_in_format options (Ruled rule) aids format =
-    Formatted (Rate options (Ruled rule) aids) format
-source_in_format options (Drawn name) aids format =
-    Formatted (Rate options (Drawn name) aids) format
+source_in_format options (Given order detail) aids format =
+    Formatted (Rate options (Given order detail) aids) format
+source_in_format options (Ruled rule detail) aids format =
+    Formatted (Rate options (Ruled rule detail) aids) format
+source_in_format options (Drawn name detail) aids format =
+    Formatted (Rate options (Drawn name detail) aids) format
 
 -- work is done with its output in this format
 abbrev pub work_in_format : Work → Format → Asked

@@ -25,20 +25,25 @@ rule_by name =
     else (if bytes_eq name (codes "WSPT") then Wspt else Erd)))
 
 -- the orders that are evaluated: that of `--order` or of the rule that `--rule` names, or those of the text
--- that `--orders` names; or the pieces of the text that `--schedule` names
+-- that `--orders` names; or the pieces of the text that `--schedule` names; of one schedule also
+-- whether the arithmetic of a certificate is reported
 abbrev pub IsOrderBy : Given → OrderSource → Type 0
-IsOrderBy given (Written order) = given.value (codes "order") ≡ Some order.now
-IsOrderBy given (Ruled rule) =
+IsOrderBy given (Written order detail) =
+    (given.value (codes "order") ≡ Some order.now)
+    × IsFlagBy (given.flag (codes "certificate")) (has_arithmetic detail)
+IsOrderBy given (Ruled rule detail) =
     (given.value (codes "order") ≡ None)
     × (option_map rule_by (given.value (codes "rule")) ≡ Some rule)
+    × IsFlagBy (given.flag (codes "certificate")) (has_arithmetic detail)
 IsOrderBy given (Named name goes_on is_numbered) =
     (given.value (codes "order") ≡ None) × (given.value (codes "rule") ≡ None)
     × (given.value (codes "orders") ≡ Some name.now)
     × IsFlagBy (given.flag (codes "grade")) goes_on × (is_numbered ≡ false)
-IsOrderBy given (Drawn name) =
+IsOrderBy given (Drawn name detail) =
     (given.value (codes "order") ≡ None) × (given.value (codes "rule") ≡ None)
     × (given.value (codes "orders") ≡ None)
     × (given.value (codes "schedule") ≡ Some name.now)
+    × IsFlagBy (given.flag (codes "certificate")) (has_arithmetic detail)
 
 -- none of them is given
 pub record HasNoOrder (given : Given) : Type 0 where
@@ -58,11 +63,11 @@ abbrev pub fault_if : Bool → List ℕ → Option (List ℕ)
 fault_if twice fault = if twice then Some fault else None
 
 abbrev pub input_fault : OrderSource → Option (List ℕ)
-input_fault (Written order) = None
-input_fault (Ruled rule) = None
+input_fault (Written order detail) = None
+input_fault (Ruled rule detail) = None
 input_fault (Named name goes_on is_numbered) =
     fault_if (bytes_eq name.now (codes "-")) (codes "INPUT and --orders cannot both be standard input")
-input_fault (Drawn name) =
+input_fault (Drawn name detail) =
     fault_if (bytes_eq name.now (codes "-"))
     (codes "INPUT and --schedule cannot both be standard input")
 

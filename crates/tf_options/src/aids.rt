@@ -25,7 +25,7 @@ fn input_fault(orders: &OrderSource<'_>) -> Option<&'static str>
         OrderSource::Named { name, .. } if *name == "-" => {
             Some("INPUT and --orders cannot both be standard input")
         }
-        OrderSource::Drawn(name) if *name == "-" => {
+        OrderSource::Drawn(name, _) if *name == "-" => {
             Some("INPUT and --schedule cannot both be standard input")
         }
         _ => None,

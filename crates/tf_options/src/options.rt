@@ -166,10 +166,10 @@ pub struct Assessing<'a> {
 /// Where the orders of jobs or the pieces come from whose schedules are evaluated.
 #[derive(Clone, Copy, Debug)]
 pub enum OrderSource<'a> {
-    /// One order, on the command line.
-    Given(&'a str),
-    /// The order of a rule.
-    Ruled(Rule),
+    /// One order, on the command line, and how much is reported of the certificate of the optimum.
+    Given(&'a str, Detail),
+    /// The order of a rule, and the same.
+    Ruled(Rule, Detail),
     /// The name of a text with an order in each line, whether a line that is none is told and the
     /// others are gone on with, and whether each is told with the number of its line.
     Named {
@@ -177,8 +177,8 @@ pub enum OrderSource<'a> {
         goes_on: bool,
         is_numbered: bool,
     },
-    /// The name of a text with the pieces of a schedule.
-    Drawn(&'a str),
+    /// The name of a text with the pieces of a schedule, and the same as of one order.
+    Drawn(&'a str, Detail),
 }
 
 /// How the schedule of an answer is drawn.
@@ -530,10 +530,10 @@ fn orders_in<'a>(given: &ArgMatches<'a>) -> Option<OrderSource<'a>>
     ensures { MatchOption result (HasNoOrder (given_of given.now)) (IsOrderBy (given_of given.now)) }
 {
     if let Some(order) = given.get_str("order") {
-        return Some(OrderSource::Given(order));
+        return Some(OrderSource::Given(order, detail_in(given)));
     }
     if let Some(name) = given.get_str("rule") {
-        return Some(OrderSource::Ruled(rule_by(name)));
+        return Some(OrderSource::Ruled(rule_by(name), detail_in(given)));
     }
     if let Some(name) = given.get_str("orders") {
         return Some(OrderSource::Named {
@@ -543,7 +543,7 @@ fn orders_in<'a>(given: &ArgMatches<'a>) -> Option<OrderSource<'a>>
         });
     }
     match given.get_str("schedule") {
-        Some(name) => Some(OrderSource::Drawn(name)),
+        Some(name) => Some(OrderSource::Drawn(name, detail_in(given))),
         None => None,
     }
 }
@@ -567,7 +567,7 @@ fn rule_by(name: &str) -> Rule
     Rule::Erd
 }
 
-// How much is reported of an answer: the certificate's arithmetic where it is asked for.
+// How much is reported of an evaluation: the certificate's arithmetic where it is asked for.
 fn detail_in(given: &ArgMatches<'_>) -> Detail
     ensures { IsFlagBy ((given_of given.now).flag (codes "certificate")) (has_arithmetic result) }
 {

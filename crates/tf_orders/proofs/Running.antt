@@ -15,9 +15,11 @@ use Rattle.tf_orders.specs.declared.case_read.Posed.TheVariants.{Solved, Unsolve
 use Rattle.tf_orders.specs.declared.measure.Measure.{Measure}
 use Rattle.tf_orders.specs.declared.run_orders.OrderForm.{OrderForm}
 use Rattle.tf_orders.specs.declared.run_orders.OrdersRated.{OrdersRated}
+use Rattle.tf_evaluate.specs.declared.evaluation.Detail.{Detail}
+use Rattle.tf_evaluate.specs.Evaluating.{IsOptimum}
 use Rattle.tf_assess.specs.Measures.{PosedData}
 use Rattle.tf_bound_text.specs.BoundSheetData.{BoundSheetData}
-use Rattle.tf_orders.specs.Measuring.{IsMeasure, others_of}
+use Rattle.tf_orders.specs.Measuring.{IsMeasure, detail_of, others_of}
 use Rattle.tf_orders.specs.OrderText.{AreRated}
 use Rattle.tf_orders.specs.OrderParts.{Means, Measures, IsCycleOf, IsUnmeasured, IsUnrated, IsRefusedCase, ReadsOrderCase, with_others}
 use Rattle.tf_orders.specs.RunOrders.{IsRated, SaysRated, IsRefusedOrders, HasOrderReaderFailed, IsOrdersRunOf}
@@ -36,29 +38,38 @@ unrated_later form m text Fails h = absurd h
 unrated_later form m text Wants h = refl
 
 -- the measure of what is asked for
-pub measure_is : {A : Type 0} (offer : Option BoundSheetData) (request : RequestData)
-    (others : Option PosedData) (text : List ℕ) (posed : Posed A) (m : Measure A)
-    → Means (is_some offer) request text posed → Measures offer others posed m
-    → IsMeasure offer request text m
-measure_is offer request others text (Solved asked) m (solved, is) (best, same, least) =
-    subst (IsMeasure offer request text) (sym same) (solved, is.problem, is.meant, least)
-measure_is offer request others text (Unsolved task) m (unsolved, meant)
+pub measure_is : {A : Type 0} (detail : Detail) (offer : Option BoundSheetData)
+    (request : RequestData) (others : Option PosedData) (text : List ℕ) (posed : Posed A)
+    (m : Measure A)
+    → Means (is_some offer) request text posed → Measures detail offer others posed m
+    → IsMeasure detail offer request text m
+measure_is detail offer request others text (Solved asked) m (solved, is)
+    (best, steps, same, optimum) =
+    subst (IsMeasure detail offer request text) (sym same) (solved, is.problem, is.meant, optimum)
+measure_is detail offer request others text (Unsolved task) m (unsolved, meant)
     (weighed, same, feasible, bound) =
-    subst (IsMeasure offer request text) (sym same) (unsolved, meant, feasible, bound)
+    subst (IsMeasure detail offer request text) (sym same) (unsolved, meant, feasible, bound)
 
-pub measures_with : {A : Type 0} (offer : Option BoundSheetData) (others : Option PosedData)
-    (posed : Posed A) (m n : Measure A)
-    → Measures offer None posed m → n ≡ with_others m others → Measures offer others posed n
-measures_with offer others (Solved asked) m n (best, same, least) is =
-    (best, is ∙ ap (λ m. with_others m others) same, least)
-measures_with offer others (Unsolved task) m n (weighed, same, feasible, bound) is =
+pub measures_with : {A : Type 0} (given detail : Detail) (offer : Option BoundSheetData)
+    (others : Option PosedData) (posed : Posed A) (m n : Measure A) → given ≡ detail
+    → Measures given offer None posed m → n ≡ with_others m others
+    → Measures detail offer others posed n
+measures_with given detail offer others (Solved asked) m n known (best, steps, same, optimum) is = (
+  best,
+  steps,
+  is ∙ ap (λ m. with_others m others) same,
+  subst (λ (d : Detail). IsOptimum d asked.task best steps.items) known optimum,
+)
+measures_with given detail offer others (Unsolved task) m n known
+    (weighed, same, feasible, bound) is =
     (weighed, is ∙ ap (λ m. with_others m others) same, feasible, bound)
 
 -- with the instance that was given for the other objectives
-pub others_are : {A : Type 0} (offer : Option BoundSheetData) (others : Option PosedData)
-    (posed : Posed A) (m : Measure A) → Measures offer others posed m → others_of m ≡ others
-others_are offer others (Solved asked) m (best, same, least) = ap others_of same
-others_are offer others (Unsolved task) m (weighed, same, feasible, bound) =
+pub others_are : {A : Type 0} (detail : Detail) (offer : Option BoundSheetData)
+    (others : Option PosedData) (posed : Posed A) (m : Measure A)
+    → Measures detail offer others posed m → others_of m ≡ others
+others_are detail offer others (Solved asked) m (best, steps, same, optimum) = ap others_of same
+others_are detail offer others (Unsolved task) m (weighed, same, feasible, bound) =
     ap others_of same
 
 cyclic : {A : Type 0} (form : OrderForm) (offer : Option BoundSheetData) (request : RequestData)
@@ -141,10 +152,12 @@ module _ (A T U : Type 0) (form : OrderForm) (offer : Option BoundSheetData)
           (stop_of e) h;
     }
 
-    module _ (m : Measure A) (measures : Measures offer others case.posed m) (bytes : List ℕ)
-        (same : bytes ≡ case.text.items) where
-      is_measure : IsMeasure offer request had.text m
-      is_measure = measure_is offer request others had.text case.posed m had.given.means measures
+    module _ (m : Measure A) (measures : Measures (detail_of form) offer others case.posed m)
+        (bytes : List ℕ) (same : bytes ≡ case.text.items) where
+      is_measure : IsMeasure (detail_of form) offer request had.text m
+      is_measure =
+          measure_is (detail_of form) offer request others had.text case.posed m had.given.means
+          measures
 
       whole : bytes ≡ had.orders_text
       whole = same ∙ had.given.text_is
@@ -176,7 +189,7 @@ module _ (A T U : Type 0) (form : OrderForm) (offer : Option BoundSheetData)
         is_rated : IsRated form offer request others had.text had.orders_text out rated m
         is_rated = record {
           measure = is_measure;
-          others_are = others_are offer others case.posed m measures;
+          others_are = others_are (detail_of form) offer others case.posed m measures;
           rated_is = subst (λ (bs : List ℕ). AreRated form m bs out rated) whole are;
         }
 

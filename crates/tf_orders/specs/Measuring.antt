@@ -10,7 +10,9 @@ use Rattle.tf_plan.specs.Order.{IsFeasible}
 use Rattle.tf_problem.specs.ProblemData.{ProblemData, is_job_shop}
 use Rattle.tf_bounding.specs.RunBounding.{problem_in, problem_task_for}
 use Rattle.tf_bound_text.specs.BoundSheetData.{BoundSheetData}
-use Rattle.tf_evaluate.specs.Evaluating.{IsLeastCost}
+use Rattle.tf_evaluate.specs.declared.evaluation.Detail.{Detail}
+use Rattle.tf_evaluate.specs.declared.evaluation.Detail.TheVariants.{Summary}
+use Rattle.tf_evaluate.specs.Evaluating.{IsOptimum}
 use Rattle.tf_assess.specs.Assessing.{IsWeighed}
 use Rattle.tf_assess.specs.RunRating.{is_solved}
 use Rattle.tf_assess.specs.Measures.{PosedData}
@@ -18,6 +20,8 @@ use Rattle.tf_schedule.specs.declared.piece.Piece.{Piece}
 use Rattle.tf_orders.specs.declared.order.Turn.{Turn}
 use Rattle.tf_orders.specs.declared.measure.Measure.{Measure}
 use Rattle.tf_orders.specs.declared.measure.Measure.TheVariants.{Optimum, Bound}
+use Rattle.tf_orders.specs.declared.run_orders.OrderForm.{OrderForm}
+use Rattle.tf_orders.specs.declared.run_orders.OrderForm.TheVariants.{Single, Lines, Numbered, Ruled, Pieces}
 use Rattle.tf_orders.specs.declared.flaw.Flaw.{Flaw}
 use Rattle.tf_orders.specs.Orders.{IsFlaw, IsOrder, IsNoOrder}
 use Rattle.tf_orders.specs.Laying.{schedule_of, orders_of, problem_schedule_of, problem_orders_of}
@@ -32,34 +36,43 @@ abbrev pub measured_problem : Bool → List ℕ → Result Problem Refused
 measured_problem bounded text =
     if is_by_optimum bounded text then problem_for text else problem_in text
 
+-- how much is reported of the certificate of the optimum: a list of orders has no place for it
+abbrev pub detail_of : OrderForm → Detail
+detail_of (Single detail) = detail
+detail_of (Ruled rule detail) = detail
+detail_of (Pieces detail) = detail
+detail_of (Lines goes_on) = Summary
+detail_of (Numbered goes_on) = Summary
+
 -- the request and the instance text mean a task, and this is its optimum or a lower bound
-abbrev pub IsMeasure : {A : Type 0} → Option BoundSheetData → RequestData → List ℕ → Measure A → Type 0
-IsMeasure offer request text (Optimum problem task best others) =
+abbrev pub IsMeasure : {A : Type 0} → Detail → Option BoundSheetData → RequestData → List ℕ
+    → Measure A → Type 0
+IsMeasure detail offer request text (Optimum problem task best steps others) =
     IsTrue (is_by_optimum (is_some offer) request.problem) × (problem_for request.problem ≡ Ok problem)
-    × (task_for request text ≡ Ok task) × IsLeastCost task best
-IsMeasure offer request text (Bound task weighed others) =
+    × (task_for request text ≡ Ok task) × IsOptimum detail task best steps.items
+IsMeasure detail offer request text (Bound task weighed others) =
     IsFalse (is_by_optimum (is_some offer) request.problem)
     × (problem_task_for request text ≡ Ok task)
     × IsFeasible task × IsWeighed task offer weighed
 
 -- the instance by which schedules are measured by the other objectives, where that is asked for
 abbrev pub others_of : {A : Type 0} → Measure A → Option PosedData
-others_of (Optimum problem task best others) = others
+others_of (Optimum problem task best steps others) = others
 others_of (Bound task weighed others) = others
 
 -- the jobs of the task
 abbrev pub jobs_in : {A : Type 0} → Measure A → ℕ
-jobs_in (Optimum problem task best others) = length task.jobs
+jobs_in (Optimum problem task best steps others) = length task.jobs
 jobs_in (Bound task weighed others) = length task.jobs
 
 -- its machines that have an order of their own
 abbrev pub orders_in : {A : Type 0} → Measure A → ℕ
-orders_in (Optimum problem task best others) = orders_of task
+orders_in (Optimum problem task best steps others) = orders_of task
 orders_in (Bound task weighed others) = problem_orders_of task
 
 -- the semi-active schedule
 abbrev pub schedule_in : {A : Type 0} → Measure A → List Turn → List Piece
-schedule_in (Optimum problem task best others) turns = schedule_of task turns
+schedule_in (Optimum problem task best steps others) turns = schedule_of task turns
 schedule_in (Bound task weighed others) turns = problem_schedule_of task turns
 
 -- the text says an order of the jobs 1 to n, and the pieces are its semi-active schedule
@@ -90,13 +103,14 @@ pub record IsProblemUnordered (k : ProblemData) (text : List ℕ) : Type 0 where
 
 -- the text says an order, and the pieces are its semi-active schedule
 abbrev pub IsScheduled : {A : Type 0} → Measure A → List ℕ → List Piece → Type 0
-IsScheduled (Optimum problem task best others) text ps =
+IsScheduled (Optimum problem task best steps others) text ps =
     IsLaid (length task.jobs) (orders_of task) (schedule_of task) text ps
 IsScheduled (Bound task weighed others) text ps = IsProblemScheduled task text ps
 
 -- it says none
 abbrev pub IsUnordered : {A : Type 0} → Measure A → List ℕ → Type 0
-IsUnordered (Optimum problem task best others) text = IsNoOrder (length task.jobs) (orders_of task) text
+IsUnordered (Optimum problem task best steps others) text =
+    IsNoOrder (length task.jobs) (orders_of task) text
 IsUnordered (Bound task weighed others) text = IsProblemUnordered task text
 
 -- this is wrong with it
@@ -106,5 +120,6 @@ IsProblemFlaw k text flaw =
     ⊎ (IsFalse (is_job_shop k.problem.env) × IsFlaw (length k.jobs) (problem_orders_of k) text flaw)
 
 abbrev pub IsFlawOf : {A : Type 0} → Measure A → List ℕ → Flaw → Type 0
-IsFlawOf (Optimum problem task best others) text flaw = IsFlaw (length task.jobs) (orders_of task) text flaw
+IsFlawOf (Optimum problem task best steps others) text flaw =
+    IsFlaw (length task.jobs) (orders_of task) text flaw
 IsFlawOf (Bound task weighed others) text flaw = IsProblemFlaw task text flaw

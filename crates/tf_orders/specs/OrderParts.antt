@@ -18,7 +18,9 @@ use Rattle.tf_engine.specs.Solvers.{IsNamedCycle}
 use Rattle.tf_plan.specs.Order.{IsFeasible, IsProblemCycle}
 use Rattle.tf_bound_text.specs.BoundSheetData.{BoundSheetData}
 use Rattle.tf_bounding.specs.RunBounding.{problem_task_for}
-use Rattle.tf_evaluate.specs.Evaluating.{IsLeastCost}
+use Rattle.tf_evaluate.specs.declared.evaluation.Detail.{Detail}
+use Rattle.tf_evaluate.specs.declared.step.Step.{Step}
+use Rattle.tf_evaluate.specs.Evaluating.{IsOptimum}
 use Rattle.tf_assess.specs.Assessing.{IsWeighed}
 use Rattle.tf_assess.specs.declared.offered.Weighed.{Weighed}
 use Rattle.tf_assess.specs.Measures.{PosedData}
@@ -95,17 +97,18 @@ pub record ReadsOrderCase {A T U : Type 0} (bounded : Bool) (request : RequestDa
 -- ---- the measure
 
 -- this is the task's optimum, or a lower bound of it, with the instance that gives the other objectives
-abbrev pub Measures : {A : Type 0} → Option BoundSheetData → Option PosedData → Posed A → Measure A
-    → Type 0
-Measures offer others (Solved asked) m =
-    (best : ℤ) × (m ≡ Optimum asked.problem asked.task best others) × IsLeastCost asked.task best
-Measures {A = A} offer others (Unsolved task) m =
+abbrev pub Measures : {A : Type 0} → Detail → Option BoundSheetData → Option PosedData → Posed A
+    → Measure A → Type 0
+Measures {A = A} detail offer others (Solved asked) m =
+    (best : ℤ) × (steps : Vec Step A) × (m ≡ Optimum asked.problem asked.task best steps others)
+    × IsOptimum detail asked.task best steps.items
+Measures {A = A} detail offer others (Unsolved task) m =
     (weighed : Weighed A) × (m ≡ Bound task weighed others) × IsFeasible task
     × IsWeighed task offer weighed
 
 -- the same with another instance
 abbrev pub with_others : {A : Type 0} → Measure A → Option PosedData → Measure A
-with_others (Optimum problem task best _) others = Optimum problem task best others
+with_others (Optimum problem task best steps _) others = Optimum problem task best steps others
 with_others (Bound task weighed _) others = Bound task weighed others
 
 -- the arcs of the task have a cycle, and the jobs are the one that is named

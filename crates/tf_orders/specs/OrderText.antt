@@ -17,6 +17,7 @@ use Rattle.tf_evaluate.specs.declared.evaluation.Standing.{Standing}
 use Rattle.tf_evaluate.specs.EvaluationData.{EvaluationData, gap, standing_of}
 use Rattle.tf_evaluate.specs.Evaluating.{outcomes_for}
 use Rattle.tf_evaluate.specs.EvaluationText.{fit_words, evaluation_text}
+use Rattle.tf_evaluate.specs.declared.step.Step.{Step}
 use Rattle.tf_assess.specs.declared.assessment.Assessment.{Assessment}
 use Rattle.tf_assess.specs.declared.offered.Weighed.{Weighed}
 use Rattle.tf_assess.specs.declared.assessment.ProblemFit.{ProblemFit}
@@ -41,9 +42,10 @@ use Rattle.tf_orders.specs.Ruled.{IsRuled}
 
 -- ---- one order, evaluated
 
--- the pieces are evaluated, and nothing is claimed or bounded beside them
-pub record IsScheduleEvaluation (problem : Problem) (k : SchedulingTask) (best : ℤ) (ps : List Piece)
-    (e : EvaluationData) : Type 0 where
+-- the pieces are evaluated beside the optimum and the arithmetic of what shows it, and nothing is
+-- claimed or bounded beside them
+pub record IsScheduleEvaluation (problem : Problem) (k : SchedulingTask) (best : ℤ)
+    (steps : List Step) (ps : List Piece) (e : EvaluationData) : Type 0 where
   pub fit : Fit
   pub judged : IsJudged k ps fit
   pub is : e ≡ record {
@@ -54,7 +56,7 @@ pub record IsScheduleEvaluation (problem : Problem) (k : SchedulingTask) (best :
     claimed = None;
     best = best;
     bound = None;
-    steps = [];
+    steps = steps;
     outcomes = outcomes_for k ps (Some fit);
   }
 
@@ -72,8 +74,8 @@ pub record IsScheduleAssessment {A : Type 0} (k : ProblemData) (weighed : Weighe
 -- the text is the evaluation of the pieces, which come to this, with their values by the other
 -- objectives where those are asked for
 abbrev pub IsEvaluated : {A : Type 0} → Measure A → List Piece → List ℕ → Standing → Type 0
-IsEvaluated (Optimum problem task best others) ps out standing =
-    (e : EvaluationData) × IsScheduleEvaluation problem task best ps e
+IsEvaluated (Optimum problem task best steps others) ps out standing =
+    (e : EvaluationData) × IsScheduleEvaluation problem task best steps.items ps e
     × ((m : Option Measures) × AreMeasuredBy others ps m
     × (out ≡ measured_text (evaluation_text e) m)) × (standing ≡ standing_of e.fit e.best)
 IsEvaluated {A = A} (Bound task weighed others) ps out standing =
@@ -109,7 +111,7 @@ problem_row_words fit bound m = assessments.fit_words (Some fit)
 
 -- the line of these pieces
 abbrev pub IsRowOf : {A : Type 0} → Measure A → List Piece → List ℕ → Type 0
-IsRowOf (Optimum problem task best others) ps row =
+IsRowOf (Optimum problem task best steps others) ps row =
     (fit : Fit) × IsJudged task ps fit
     × ((m : Option Measures) × AreMeasuredBy others ps m
     × (row ≡ line_text (row_words fit best m)))
@@ -185,7 +187,8 @@ AreRows goes_on m (line ∷ more) out =
 
 -- a line of what the orders are measured by: the optimum, or the lower bound
 abbrev pub measure_line : {A : Type 0} → Measure A → List ℕ
-measure_line (Optimum problem task best others) = line_text (codes "best" ∷ signed_decimal best ∷ [])
+measure_line (Optimum problem task best steps others) =
+    line_text (codes "best" ∷ signed_decimal best ∷ [])
 measure_line (Bound task weighed others) =
     line_text (codes "bound" ∷ signed_decimal weighed.bound.value ∷ [])
 
@@ -216,19 +219,19 @@ IsFirstBad m (line ∷ more) k =
 
 -- what is written of the orders or the pieces of a text
 abbrev pub AreRated : {A : Type 0} → OrderForm → Measure A → List ℕ → List ℕ → OrdersRated → Type 0
-AreRated Single m text out (rateds.Single standing) =
+AreRated (Single detail) m text out (rateds.Single standing) =
     (ps : List Piece) × IsScheduled m text ps × IsEvaluated m ps out standing
-AreRated (Ruled rule) m text out (rateds.Single standing) =
+AreRated (Ruled rule detail) m text out (rateds.Single standing) =
     (ps : List Piece) × IsRuled rule m ps × IsEvaluated m ps out standing
-AreRated Pieces m text out (rateds.Single standing) =
+AreRated (Pieces detail) m text out (rateds.Single standing) =
     (ps : List Piece) × (pieces_of (kept_lines 1 (lines text)) ≡ Ok ps)
     × IsEvaluated m ps out standing
 AreRated (Lines goes_on) m text out rateds.Lines = AreRows goes_on m (kept_lines 1 (lines text)) out
 AreRated (Numbered goes_on) m text out rateds.Lines =
     AreNumberedRows goes_on m (kept_lines 1 (lines text)) out
-AreRated Single m text out rateds.Lines = ⊥
-AreRated (Ruled rule) m text out rateds.Lines = ⊥
-AreRated Pieces m text out rateds.Lines = ⊥
+AreRated (Single detail) m text out rateds.Lines = ⊥
+AreRated (Ruled rule detail) m text out rateds.Lines = ⊥
+AreRated (Pieces detail) m text out rateds.Lines = ⊥
 AreRated (Lines goes_on) m text out (rateds.Single standing) = ⊥
 AreRated (Numbered goes_on) m text out (rateds.Single standing) = ⊥
 
@@ -239,8 +242,8 @@ IsBadText goes_on m text fault =
 
 -- this is the text's first fault
 abbrev pub IsMalformed : {A : Type 0} → OrderForm → Measure A → List ℕ → AnswerFault → Type 0
-IsMalformed Single m text fault = IsUnordered m text × (fault ≡ answers.BadLine 1)
+IsMalformed (Single detail) m text fault = IsUnordered m text × (fault ≡ answers.BadLine 1)
 IsMalformed (Lines goes_on) m text fault = IsBadText goes_on m text fault
 IsMalformed (Numbered goes_on) m text fault = IsBadText goes_on m text fault
-IsMalformed (Ruled rule) m text fault = ⊥
-IsMalformed Pieces m text fault = pieces_of (kept_lines 1 (lines text)) ≡ Err fault
+IsMalformed (Ruled rule detail) m text fault = ⊥
+IsMalformed (Pieces detail) m text fault = pieces_of (kept_lines 1 (lines text)) ≡ Err fault

@@ -51,7 +51,7 @@ pub record IsLaidByRule (IsSeen : RuledJob → Type 0) (n m : ℕ) (laid : List 
   pub pieces : ps ≡ laid turns
 
 abbrev pub IsSeenIn : {A : Type 0} → Measure A → RuledJob → Type 0
-IsSeenIn (Optimum problem task best others) = IsSeen task
+IsSeenIn (Optimum problem task best steps others) = IsSeen task
 IsSeenIn (Bound task weighed others) = IsSeenOfProblem task
 
 -- the same of a task

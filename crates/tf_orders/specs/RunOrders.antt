@@ -20,7 +20,7 @@ use Rattle.tf_assess.specs.Measures.{PosedData}
 use Rattle.tf_orders.specs.declared.measure.Measure.{Measure}
 use Rattle.tf_orders.specs.declared.run_orders.OrderForm.{OrderForm}
 use Rattle.tf_orders.specs.declared.run_orders.OrdersRated.{OrdersRated}
-use Rattle.tf_orders.specs.Measuring.{IsMeasure, is_by_optimum, others_of}
+use Rattle.tf_orders.specs.Measuring.{IsMeasure, detail_of, is_by_optimum, others_of}
 use Rattle.tf_orders.specs.OrderText.{AreRated, IsMalformed}
 
 -- the request and the text mean a task: of a class, or with a bound, or of another problem, one that has
@@ -49,7 +49,7 @@ pub record IsTooLong (bounded : Bool) (request : RequestData) (text orders : Lis
 pub record IsRated {A : Type 0} (form : OrderForm) (offer : Option BoundSheetData)
     (request : RequestData) (others : Option PosedData) (text orders out : List ℕ)
     (rated : OrdersRated) (m : Measure A) : Type 0 where
-  pub measure : IsMeasure offer request text m
+  pub measure : IsMeasure (detail_of form) offer request text m
   pub others_are : others_of m ≡ others
   pub rated_is : AreRated form m orders out rated
 
@@ -62,7 +62,7 @@ SaysRated A form offer request others text orders out =
 -- a line of the orders or pieces is malformed
 pub record IsBadLine {A : Type 0} (form : OrderForm) (offer : Option BoundSheetData)
     (request : RequestData) (text orders : List ℕ) (refused : Refused) (m : Measure A) : Type 0 where
-  pub measure : IsMeasure offer request text m
+  pub measure : IsMeasure (detail_of form) offer request text m
   pub fault : AnswerFault
   pub is : refused ≡ ByAnswer fault
   pub malformed : IsMalformed form m orders fault

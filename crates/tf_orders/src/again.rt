@@ -40,9 +40,9 @@ fn task_pieces(alloc: Global, task: &Task, form: OrderForm, text: &[u8]) -> Opti
     requires { length text.now ≤ most_bytes }
 {
     match form {
-        OrderForm::Single => task_scheduled(alloc, task, text).ok().flatten(),
-        OrderForm::Ruled(rule) => ruled_of(alloc, task, rule).ok(),
-        OrderForm::Pieces => pieces_in(alloc, text).ok(),
+        OrderForm::Single(_) => task_scheduled(alloc, task, text).ok().flatten(),
+        OrderForm::Ruled(rule, _) => ruled_of(alloc, task, rule).ok(),
+        OrderForm::Pieces(_) => pieces_in(alloc, text).ok(),
         OrderForm::Lines { .. } | OrderForm::Numbered { .. } => None,
     }
 }
@@ -56,9 +56,9 @@ fn problem_pieces(
     requires { length text.now ≤ most_bytes }
 {
     match form {
-        OrderForm::Single => problem_scheduled(alloc, task, text).ok().flatten(),
-        OrderForm::Ruled(rule) => ruled_problem(alloc, task, rule).ok(),
-        OrderForm::Pieces => pieces_in(alloc, text).ok(),
+        OrderForm::Single(_) => problem_scheduled(alloc, task, text).ok().flatten(),
+        OrderForm::Ruled(rule, _) => ruled_problem(alloc, task, rule).ok(),
+        OrderForm::Pieces(_) => pieces_in(alloc, text).ok(),
         OrderForm::Lines { .. } | OrderForm::Numbered { .. } => None,
     }
 }

@@ -11,7 +11,9 @@ use tf_bound::task::ProblemTask;
 use tf_bounding::feasible::check_feasible;
 use tf_engine::case::Asked;
 use tf_engine::fault::RunFault;
-use tf_evaluate::evaluate::least_cost;
+use tf_evaluate::evaluate::{Optimum, find_optimum};
+use tf_evaluate::evaluation::Detail;
+use tf_evaluate::step::Step;
 use tf_model::problem::Problem;
 use tf_model::task::Task;
 use tf_search::effort::Progress;
@@ -21,11 +23,13 @@ use tf_search::strongest::strongest;
 /// measured by the other objectives too, where that is asked for.
 #[derive(Drop)]
 pub enum Measure<A: Allocator = Global> {
-    /// A task of a class, and the least cost of a timetable that fits.
+    /// A task of a class, the least cost of a timetable that fits, and the arithmetic of a
+    /// certificate that none costs less, where that is asked for.
     Optimum {
         problem: Problem,
         task: Task<A>,
         best: i64,
+        steps: Vec<Step, A>,
         others: Option<PosedInstance<A>>,
     },
     /// A task, the strongest lower bound that is found or offered, and what the bound that was
@@ -47,11 +51,13 @@ impl<A: Allocator> Measure<A> {
                 problem,
                 task,
                 best,
+                steps,
                 ..
             } => Measure::Optimum {
                 problem,
                 task,
                 best,
+                steps,
                 others,
             },
             Measure::Bound { task, weighed, .. } => Measure::Bound {
@@ -69,18 +75,20 @@ pub(crate) fn measured<A: Allocator + Copy, P: Progress + Drop>(
     alloc: A,
     posed: Posed<A>,
     aids: Aids<P, A>,
+    detail: Detail,
 ) -> Result<Measure<A>, RunFault<A>>
-    ensures { MatchResult result (Measures aids.offered None posed)
+    ensures { MatchResult result (Measures detail aids.offered None posed)
         (λ e. IsUnmeasured posed (stop_of e)) }
 {
     match posed {
         Posed::Solved(asked) => {
             let Asked { problem, task } = asked;
-            let best = least_cost(alloc, &task)?;
+            let Optimum { best, steps } = find_optimum(alloc, &task, detail)?;
             Ok(Measure::Optimum {
                 problem,
                 task,
                 best,
+                steps,
                 others: None,
             })
         }

@@ -10,6 +10,7 @@ ghost use Rattle.tf_orders.specs.Pieces.{pieces_of};
 ghost use Rattle.tf_orders.specs.OrderText.{AreRated, AreRows, IsEvaluatedAs, IsLineOf, IsRowOf};
 ghost use Rattle.tf_orders.specs.OrderText.{AreNumberedRows, IsScheduleAssessment};
 ghost use Rattle.tf_orders.specs.OrderText.{IsScheduleEvaluation};
+ghost use Rattle.tf_evaluate.specs.declared.evaluation.Detail.{Detail};
 
 use crate::grading::push_graded;
 use crate::measure::Measure;
@@ -33,6 +34,7 @@ use tf_check::load::Load;
 use tf_engine::fault::RunFault;
 use tf_evaluate::evaluate::judge_pieces;
 use tf_evaluate::evaluation::Evaluation;
+use tf_evaluate::step::Step;
 use tf_evaluate::writing::evaluation_bytes;
 use tf_model::memory::OutOfMemory;
 use tf_model::problem::Problem;
@@ -61,9 +63,9 @@ pub(crate) fn rating_of<A: Allocator + Copy>(
         (λ e. IsUnrated form measure text.now (stop_of e)) }
 {
     match form {
-        OrderForm::Single => single_rating(alloc, measure, text),
-        OrderForm::Ruled(rule) => ruled_rating(alloc, measure, rule, text),
-        OrderForm::Pieces => pieces_rating(alloc, measure, text),
+        OrderForm::Single(_) => single_rating(alloc, measure, text),
+        OrderForm::Ruled(rule, _) => ruled_rating(alloc, measure, rule, text),
+        OrderForm::Pieces(_) => pieces_rating(alloc, measure, text),
         OrderForm::Lines { goes_on } => {
             let text = rows_of(alloc, &measure, goes_on, text)?;
             Ok(Rating {
@@ -87,9 +89,9 @@ fn single_rating<A: Allocator + Copy>(
     measure: Measure<A>,
     text: &[u8],
 ) -> Result<Rating<A>, RunFault<A>>
-    ensures { MatchResult result
-        (λ r. AreRated OrderForm.Single measure text.now r.text.items r.rated)
-        (λ e. IsUnrated OrderForm.Single measure text.now (stop_of e)) }
+    ensures { (detail : Detail) → MatchResult result
+        (λ r. AreRated (OrderForm.Single detail) measure text.now r.text.items r.rated)
+        (λ e. IsUnrated (OrderForm.Single detail) measure text.now (stop_of e)) }
 {
     let Some(pieces) = scheduled(alloc, &measure, text)? else {
         return Err(RunFault::Answer(AnswerFault::BadLine(1)));
@@ -105,9 +107,9 @@ fn ruled_rating<A: Allocator + Copy>(
     rule: Rule,
     text: &[u8],
 ) -> Result<Rating<A>, RunFault<A>>
-    ensures { MatchResult result
-        (λ r. AreRated (OrderForm.Ruled rule) measure text.now r.text.items r.rated)
-        (λ e. IsUnrated (OrderForm.Ruled rule) measure text.now (stop_of e)) }
+    ensures { (detail : Detail) → MatchResult result
+        (λ r. AreRated (OrderForm.Ruled rule detail) measure text.now r.text.items r.rated)
+        (λ e. IsUnrated (OrderForm.Ruled rule detail) measure text.now (stop_of e)) }
 {
     let pieces = ruled(alloc, &measure, rule)?;
     let rating = evaluated(alloc, measure, pieces)?;
@@ -131,9 +133,9 @@ fn pieces_rating<A: Allocator + Copy>(
     text: &[u8],
 ) -> Result<Rating<A>, RunFault<A>>
     requires { length text.now ≤ most_bytes }
-    ensures { MatchResult result
-        (λ r. AreRated OrderForm.Pieces measure text.now r.text.items r.rated)
-        (λ e. IsUnrated OrderForm.Pieces measure text.now (stop_of e)) }
+    ensures { (detail : Detail) → MatchResult result
+        (λ r. AreRated (OrderForm.Pieces detail) measure text.now r.text.items r.rated)
+        (λ e. IsUnrated (OrderForm.Pieces detail) measure text.now (stop_of e)) }
 {
     let pieces = drawn(alloc, text)?;
     let rating = evaluated(alloc, measure, pieces)?;
@@ -153,10 +155,11 @@ fn evaluated<A: Allocator + Copy>(
             problem,
             task,
             best,
+            steps,
             others,
         } => {
             let measures = measured_by(alloc, &others, &pieces)?;
-            let evaluation = evaluation_of(alloc, problem, &task, best, pieces)?;
+            let evaluation = evaluation_of(alloc, problem, &task, best, steps, pieces)?;
             let text = with_measures(evaluation_bytes(alloc, &evaluation)?, &measures)?;
             let rated = OrdersRated::Single(evaluation.standing());
             Ok(Rating { text, rated })
@@ -181,9 +184,11 @@ fn evaluation_of<A: Allocator + Copy, B: Allocator>(
     problem: Problem,
     task: &Task<B>,
     best: i64,
+    steps: Vec<Step, A>,
     pieces: Vec<Piece, A>,
 ) -> Result<Evaluation<A>, OutOfMemory>
-    ensures { IfOk result (IsScheduleEvaluation problem task.now best pieces.items) }
+    ensures { IfOk result
+        (IsScheduleEvaluation problem task.now best steps.items pieces.items) }
 {
     // What this certificate bounds is not looked at.
     let load: Certificate<A> = Certificate::Load(Load);
@@ -196,7 +201,7 @@ fn evaluation_of<A: Allocator + Copy, B: Allocator>(
         claimed: None,
         best,
         bound: None,
-        steps: Vec::new(alloc),
+        steps,
         outcomes: judged.outcomes,
     })
 }

@@ -1,9 +1,9 @@
 //! Rating the schedules of orders, from bytes to bytes.
-ghost use Rattle.std.specs.Prelude.{is_some};
+ghost use Rattle.std.specs.Prelude.{◌≡◌, is_some};
 ghost use Rattle.tf_text.specs.Counted.{use_of};
 ghost use Rattle.tf_engine.specs.Devices.{LeavesCase};
 ghost use Rattle.tf_engine.specs.Faults.{end_of};
-ghost use Rattle.tf_orders.specs.Measuring.{measured_problem};
+ghost use Rattle.tf_orders.specs.Measuring.{detail_of, measured_problem};
 ghost use Rattle.tf_orders.specs.RunOrders.{IsOrdersRunOf};
 
 use crate::case_read::{OrderCase, order_case_read};
@@ -15,7 +15,7 @@ use tf_assess::measures::PosedInstance;
 use tf_assess::offered::Aids;
 use tf_engine::fault::RunFault;
 use tf_engine::request::Request;
-use tf_evaluate::evaluation::Standing;
+use tf_evaluate::evaluation::{Detail, Standing};
 use tf_search::effort::Progress;
 use tf_sequencing::rule::Rule;
 use tf_text::counted::Counted;
@@ -23,8 +23,9 @@ use tf_text::counted::Counted;
 /// What a text of orders is, and what is written of it.
 #[derive(Clone, Copy, Debug, PartialEq, Eq)]
 pub enum OrderForm {
-    /// It is one order. The schedule is evaluated as an answer is, except what an answer claims.
-    Single,
+    /// It is one order. The schedule is evaluated as an answer is, except what an answer claims and
+    /// that the certificate whose arithmetic may be reported is that of the optimum.
+    Single(Detail),
     /// Each line that has a word and is no comment is an order. A line is written of each: the cost
     /// of the schedule and its gap to the optimum or to the lower bound, or the misfit. Of a line
     /// that is no order it is `wrong` and why, if the others are gone on with; then a line may begin
@@ -34,10 +35,24 @@ pub enum OrderForm {
     /// the optimum, `best`, or of the lower bound, `bound`.
     Numbered { goes_on: bool },
     /// It isn't looked at: the order is that of a rule. The schedule is evaluated in the same way.
-    Ruled(Rule),
+    Ruled(Rule, Detail),
     /// It is no order, but the pieces of a schedule, which is evaluated in the same way. The other
     /// lines of an answer may stand before and after them, and aren't looked at.
-    Pieces,
+    Pieces(Detail),
+}
+
+impl OrderForm {
+    // How much is reported of the certificate of the optimum.
+    fn detail(self) -> Detail
+        ensures { result ≡ detail_of self }
+    {
+        match self {
+            OrderForm::Single(detail) | OrderForm::Ruled(_, detail) | OrderForm::Pieces(detail) => {
+                detail
+            }
+            OrderForm::Lines { .. } | OrderForm::Numbered { .. } => Detail::Summary,
+        }
+    }
 }
 
 /// What is asked for, and what the text of orders is.
@@ -109,7 +124,7 @@ pub fn run_orders<
     let bounded = aids.offered.is_some();
     let case = order_case_read(alloc, asked.request, bounded, instance, orders)?;
     let OrderCase { posed, text } = case;
-    let measure = measured(alloc, posed, aids)?;
+    let measure = measured(alloc, posed, aids, asked.form.detail())?;
     let measure = measure.with_others(others);
     let rating = rating_of(alloc, asked.form, measure, text.as_slice())?;
     let Rating { text, rated } = rating;

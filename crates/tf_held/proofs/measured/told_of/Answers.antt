@@ -1,24 +1,16 @@
-use Rattle.std.proofs.Common.{List, ℕ, IfOk, sym, subst}
+use Rattle.std.proofs.Common.{List, ℕ, sym, subst}
 use Rattle.std.proofs.lemmas.Result.{IfOk-weaker}
-use Rattle.tf_options.specs.declared.options.Evaluating.{Evaluating}
-use Rattle.tf_held.specs.Measured.{MeasuresOver}
 use Rattle.tf_held.specs.Shops.{IsLineFor}
+use Rattle.tf_held.proofs.Measured.{over_read}
 use Rattle.tf_held.proofs.measured.told_of.Goals as goal
 
 pub returns : goal.returns
-returns c =
-    let under = c.evaluating_under.ensures in
+returns g c =
     IfOk-weaker c.told_over.result _ _
-    (λ told over. record {
-      other = under.0;
-      counted = (
-        c.as_str.result.now,
-        subst (λ (text : List ℕ). IsLineFor c.args.evaluating.options c.args.held.instance.now text)
-            (sym c.as_str.ensures.value) c.in_ok-line.ensures,
-        under.1,
-      );
-      over = over;
-    })
-    (subst (λ (evaluating : Evaluating). IfOk c.told_over.result (λ told. MeasuresOver
-    c.args.held.instance.now c.args.held.other.now evaluating told.output.items told.errors.items
-    told.status)) under.2 c.told_over.ensures)
+    (λ told over. over_read (g.S.Sources.text_of c.args.sources.now) c.args.instance.now
+    c.args.answer.now c.answer.result.now c.as_str.result.now c.args.answered c.under.result
+    c.options.result.now c.options-2.result.now told.output.items told.errors.items told.status
+    c.options.ensures c.options-2.ensures c.answer.ensures
+    (subst (λ (text : List ℕ). IsLineFor c.options.result.now c.args.instance.now text)
+    (sym c.as_str.ensures.value) c.in_ok-line.ensures) c.under.ensures over)
+    c.told_over.ensures

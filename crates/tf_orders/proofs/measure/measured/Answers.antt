@@ -6,7 +6,7 @@ use Rattle.tf_orders.proofs.measure.measured.Goals as goal
 
 pub returns-in_err-check_feasible-in-Unsolved : goal.returns-in_err-check_feasible-in-Unsolved
 returns-in_err-check_feasible-in-Unsolved g c =
-    err_is (λ r. MatchResult r (Measures c.args.aids.offered None c.args.posed)
+    err_is (λ r. MatchResult r (Measures c.args.detail c.args.aids.offered None c.args.posed)
     (λ e. IsUnmeasured c.args.posed (stop_of e)))
     c.in_err-check_feasible-in-Unsolved.field-0.0 _
     c.from_residual-in_err-check_feasible-in-Unsolved.ensures.1

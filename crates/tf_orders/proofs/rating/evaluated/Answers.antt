@@ -11,9 +11,9 @@ returns-in_ok-text-in-Optimum g c =
     let evaluation = c.in_ok-evaluation-in-Optimum.evaluation in
     let measures = c.in_ok-measures-in-Optimum.measures in
     let is : IsScheduleEvaluation c.in-Optimum.problem c.in-Optimum.task c.in-Optimum.best
-    c.args.pieces.items evaluation =
+    c.in-Optimum.steps.items c.args.pieces.items evaluation =
     subst (λ (best : ℤ). IsScheduleEvaluation c.in-Optimum.problem c.in-Optimum.task best
-    c.args.pieces.items evaluation) (to_z-of_z w64 c.in-Optimum.best fits)
+    c.in-Optimum.steps.items c.args.pieces.items evaluation) (to_z-of_z w64 c.in-Optimum.best fits)
     c.in_ok-evaluation-in-Optimum.ensures in
     rw c.in-Optimum.is (
       evaluation,

@@ -48,7 +48,9 @@ returns-in_err-rating-clause-outcome g c =
     c.in_err-rating.field-0.0 _
     c.from_residual-in_err-rating.ensures.1
     (unrated g.row.A.Denot _ _ c.args.asked.form c.args.measuring.aids.offered c.args.asked.request.now c.args.measuring.others _ _ _ _ _ _ _
-    (by_offer _ _ c.is_some-bounded.ensures c.in_ok-case.ensures) _ (measures_with c.args.measuring.aids.offered c.args.measuring.others _ _ _ c.in_ok-measure.ensures c.with_others-measure.ensures) _ c.as_slice.ensures.value _ _
+    (by_offer _ _ c.is_some-bounded.ensures c.in_ok-case.ensures) _
+    (measures_with _ _ c.args.measuring.aids.offered c.args.measuring.others _ _ _ c.detail.ensures
+    c.in_ok-measure.ensures c.with_others-measure.ensures) _ c.as_slice.ensures.value _ _
     c.in_err-rating.field-0.0 c.in_err-rating.ensures)
 
 pub returns-in_err-rating-clause-devices : goal.returns-in_err-rating-clause-devices
@@ -63,7 +65,9 @@ returns-in_err-push_all-clause-outcome g c =
     err_is (IsOrdersRunOf c.args.asked.form c.args.measuring.aids.offered c.args.asked.request.now _ _ _ _) Device _
     c.from_residual-in_err-push_all.ensures.1
     (cut_off g.row.A.Denot _ _ c.args.asked.form c.args.measuring.aids.offered c.args.asked.request.now c.args.measuring.others _ _ _ _ _ _ _
-    (by_offer _ _ c.is_some-bounded.ensures c.in_ok-case.ensures) _ (measures_with c.args.measuring.aids.offered c.args.measuring.others _ _ _ c.in_ok-measure.ensures c.with_others-measure.ensures) _ c.as_slice.ensures.value _ _
+    (by_offer _ _ c.is_some-bounded.ensures c.in_ok-case.ensures) _
+    (measures_with _ _ c.args.measuring.aids.offered c.args.measuring.others _ _ _ c.detail.ensures
+    c.in_ok-measure.ensures c.with_others-measure.ensures) _ c.as_slice.ensures.value _ _
     c.in_ok-rating.ensures _ c.in_err-push_all.ensures.device
     (subst (AppendsPrefix (g.W.Write.contents (inner_of c.args.writer.now))
     (g.W.Write.contents (inner_of c.push_all.new.self)))
@@ -78,7 +82,9 @@ returns-in_err-push_all-clause-devices g c =
 pub returns-clause-outcome : goal.returns-clause-outcome
 returns-clause-outcome g c =
     wrote_all g.row.A.Denot _ _ c.args.asked.form c.args.measuring.aids.offered c.args.asked.request.now c.args.measuring.others _ _ _ _ _ _ _
-    (by_offer _ _ c.is_some-bounded.ensures c.in_ok-case.ensures) _ (measures_with c.args.measuring.aids.offered c.args.measuring.others _ _ _ c.in_ok-measure.ensures c.with_others-measure.ensures) _ c.as_slice.ensures.value _ _
+    (by_offer _ _ c.is_some-bounded.ensures c.in_ok-case.ensures) _
+    (measures_with _ _ c.args.measuring.aids.offered c.args.measuring.others _ _ _ c.detail.ensures
+    c.in_ok-measure.ensures c.with_others-measure.ensures) _ c.as_slice.ensures.value _ _
     c.in_ok-rating.ensures _
     (subst (Appends (g.W.Write.contents (inner_of c.args.writer.now))
     (g.W.Write.contents (inner_of c.push_all.new.self)))
