@@ -22,19 +22,22 @@ type Kept<'a> = Console<&'a mut Vec<u8>, &'a mut Vec<u8>>;
 pub fn run(alloc: Global, line: &str, texts: Texts<'_>) -> Result<Ended, AllocError> {
     let words = words_of(alloc, line)?;
     let mut written = Vec::new(alloc);
+    let mut shown = Vec::new(alloc);
     let mut said = Vec::new(alloc);
     let mut console = Console {
         alloc,
         writer: Counted::new(&mut written),
         errors: Counted::new(&mut said),
-        is_terminal: true,
+        terminal: Some(Counted::new(&mut shown)),
     };
     let status = perform(&mut console, words.as_slice(), texts);
     drop(console);
+    // The progress of a search is shown before anything is said.
+    shown.extend_from_slice(said.as_slice())?;
     Ok(Ended {
         status: status?,
         written,
-        said,
+        said: shown,
     })
 }
 

@@ -2,3 +2,4 @@ pub mod Listing
 mod Writing
 pub mod Kept
 pub mod Unread
+pub mod Saying

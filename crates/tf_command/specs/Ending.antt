@@ -1,6 +1,6 @@
 -- How a command ends: after a run of what was asked for, with the status of what the run gave, and
 -- with its line on standard error. A is the allocator that the run took its memory from.
-use Rattle.std.specs.Prelude.{◌≡◌, ℕ, Bool, false, List, [], ◌∷◌, codes, Option, Result, Ok, Err}
+use Rattle.std.specs.Prelude.{◌≡◌, ℕ, Bool, false, List, [], ◌∷◌, ◌++◌, codes, Option, Result, Ok, Err}
 use Rattle.tf_text.specs.Counted.{DeviceUse}
 use Rattle.tf_engine.specs.declared.fault.RunFault.{RunFault}
 use Rattle.tf_engine.specs.declared.run_check.Checked.{Checked}
@@ -72,10 +72,13 @@ abbrev pub line_of : {X A : Type 0} → Result X (RunFault A) → List ℕ
 line_of (Ok x) = []
 line_of (Err fault) = fault_line fault
 
--- where nothing is to be explained, standard error gets this line and nothing else
-abbrev pub SaysLine : {E : Type 0} → (E → Option (List ℕ)) → Bool → Counted E → Counted E → List ℕ
-    → Type 0
-SaysLine contents explain old new line = explain ≡ false → Wrote contents old new line
+-- standard error gets this line, and then perhaps an explanation. Where nothing is to be explained,
+-- it gets the line and nothing else.
+pub record SaysLine {E : Type 0} (contents : E → Option (List ℕ)) (explain : Bool)
+    (old new : Counted E) (line : List ℕ) : Type 0 where
+  pub explanation : List ℕ
+  pub wrote : Wrote contents old new (line ++ explanation)
+  pub alone : explain ≡ false → explanation ≡ []
 
 pub record EndsSolving (A : Type 0) (request : RequestData) (instance writer : DeviceUse)
     (says : List ℕ → Type 0) (status : ℕ) : Type 0 where

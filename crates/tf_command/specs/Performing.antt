@@ -1,5 +1,5 @@
 -- What the program does of what is asked for: which run over which texts ends how.
-use Rattle.std.specs.Prelude.{◌≡◌, ◌⊎◌, ◌++◌, ℕ, Bool, false, true, List, [], Option, None, Some, Ok, Err, IfSome, MatchOption, codes, if◌then◌else◌}
+use Rattle.std.specs.Prelude.{◌≡◌, ◌⊎◌, ℕ, Bool, false, true, List, [], Option, None, Some, Ok, Err, IfSome, MatchOption, codes, if◌then◌else◌}
 use Rattle.std.specs.Borrow.{Bor}
 use Rattle.std.specs.declared.alloc.Global.{Global}
 use Rattle.std.specs.Io.KnownBytes.{Appends, Keeps}
@@ -96,7 +96,7 @@ IsNoTable text table fault =
     StopsReading (λ refused. refused_by ByText (job_table text) ≡ Err refused) (table.failed ≡ true)
     (stop_of fault)
 
--- there is no table, for which the line is told and then explained, and nothing was written
+-- there is no table, which the line says, and nothing was written
 pub record EndsUnlisted (table writer : DeviceUse) (says : List ℕ → Type 0) (status : ℕ) : Type 0
   where
     pub text : List ℕ
@@ -105,15 +105,15 @@ pub record EndsUnlisted (table writer : DeviceUse) (says : List ℕ → Type 0) 
     pub none : IsNoTable text table fault
     pub unwritten : Keeps writer.before writer.after
     pub ends : status ≡ status_of fault
-    pub explanation : List ℕ
-    pub said : says (fault_line fault ++ explanation)
+    pub said : says (fault_line fault)
 
--- the list was written for the instance of the table that was read, or there is none
-abbrev pub EndsListingFor : Listed → DeviceUse → DeviceUse → (List ℕ → Type 0) → ℕ → Type 0
+-- the list was written for the instance of the table that was read, or there is none, which is
+-- explained
+abbrev pub EndsListingFor : Listed → DeviceUse → DeviceUse → (Bool → List ℕ → Type 0) → ℕ → Type 0
 EndsListingFor listed table writer says status =
     ((instance : InstanceData) × IsInTable table.before instance
-    × EndsListing listed (Some instance) writer says status)
-    ⊎ EndsUnlisted table writer says status
+    × EndsListing listed (Some instance) writer (says false) status)
+    ⊎ EndsUnlisted table writer (says true) status
 
 -- how the orders of a text are told
 abbrev pub lines_form : Bool → Bool → OrderForm
@@ -271,5 +271,5 @@ Performs texts (Problems listed None) writer says status =
     EndsListing listed None writer (says false) status
 Performs texts (Problems listed (Some table)) writer says status =
     EndsOver texts table.now writer (says true) status
-    (λ reader. EndsListingFor listed reader writer (says false) status)
+    (λ reader. EndsListingFor listed reader writer says status)
 Performs texts Border writer says status = EndsTelling writer (says false) status

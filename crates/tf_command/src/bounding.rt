@@ -1,5 +1,5 @@
 //! Runs that search for a lower bound, which a terminal shows.
-ghost use Rattle.std.specs.Prelude.{◌≡◌, false};
+ghost use Rattle.std.specs.Prelude.{◌≡◌};
 ghost use Rattle.tf_assess.specs.RunAssessing.{IsAssessmentOf};
 ghost use Rattle.tf_assess.specs.RunRating.{IsRatingOf};
 ghost use Rattle.tf_bounding.specs.RunBounding.{IsBoundingOf};
@@ -38,7 +38,7 @@ const LEAST_SHOWN: u64 = 5_000_000;
 /// A line on a terminal that says how far a search is, which is gone when the search is over.
 #[derive(Drop)]
 struct StepLine<'a, E> {
-    errors: &'a mut Counted<E>,
+    terminal: &'a mut Counted<E>,
     is_shown: bool,
     // The best cost that is shown, and how many hundredths of the steps.
     cost: i128,
@@ -54,18 +54,18 @@ impl<E: Write> Progress for StepLine<'_, E> {
         self.is_shown = true;
         let mut digits = Buffer::new();
         let mut line = Gathered::<LINE>::new();
-        line.push(self.errors, b"\rstep ");
-        line.push(self.errors, digits.format(done).as_bytes());
-        line.push(self.errors, b" of ");
-        line.push(self.errors, digits.format(all).as_bytes());
-        line.write(self.errors);
+        line.push(self.terminal, b"\rstep ");
+        line.push(self.terminal, digits.format(done).as_bytes());
+        line.push(self.terminal, b" of ");
+        line.push(self.terminal, digits.format(all).as_bytes());
+        line.write(self.terminal);
     }
 
     /// Clears the line.
     fn is_over(&mut self) {
         if self.is_shown {
             self.is_shown = false;
-            send(self.errors, b"\r\x1b[K");
+            send(self.terminal, b"\r\x1b[K");
         }
     }
 }
@@ -85,14 +85,14 @@ impl<E: Write> PlanProgress for StepLine<'_, E> {
         self.cost = cost;
         let mut digits = Buffer::new();
         let mut line = Gathered::<LINE>::new();
-        line.push(self.errors, b"\r\x1b[Kcost ");
-        line.push(self.errors, digits.format(cost).as_bytes());
-        line.push(self.errors, b", bound ");
-        line.push(self.errors, digits.format(bound).as_bytes());
-        line.push(self.errors, b", ");
-        line.push(self.errors, digits.format(percent).as_bytes());
-        line.push(self.errors, b" % of the search");
-        line.write(self.errors);
+        line.push(self.terminal, b"\r\x1b[Kcost ");
+        line.push(self.terminal, digits.format(cost).as_bytes());
+        line.push(self.terminal, b", bound ");
+        line.push(self.terminal, digits.format(bound).as_bytes());
+        line.push(self.terminal, b", ");
+        line.push(self.terminal, digits.format(percent).as_bytes());
+        line.push(self.terminal, b" % of the search");
+        line.write(self.terminal);
     }
 
     /// Clears the line.
@@ -101,7 +101,7 @@ impl<E: Write> PlanProgress for StepLine<'_, E> {
     }
 }
 
-/// Runs the search for a bound, and shows its progress where `is_told` and on a terminal.
+/// Runs the search for a bound, and shows its progress where `is_told`, if there is a terminal.
 pub(crate) fn bound_over<R: Read, W: Write, E: Write>(
     console: &mut Console<W, E>,
     request: &Request,
@@ -112,11 +112,11 @@ pub(crate) fn bound_over<R: Read, W: Write, E: Write>(
     ensures outcome { IsBoundingOf request.now
         (use_of (bytes_left R.remaining) instance.old instance.new)
         (use_of W.contents console.old.writer console.new.writer) result }
-    ensures untold { is_told ≡ false → console.new.errors ≡ console.old.errors }
+    ensures unsaid { console.new.errors ≡ console.old.errors }
 {
     let alloc = console.alloc;
-    if is_told && console.is_terminal {
-        let effort = shown_on(&mut console.errors, steps);
+    if is_told && let Some(terminal) = &mut console.terminal {
+        let effort = shown_on(terminal, steps);
         run_bound(alloc, request, effort, instance, &mut console.writer)
     } else {
         let effort: Effort<StepLine<'_, E>> = Effort::untold(steps);
@@ -135,11 +135,11 @@ pub(crate) fn plan_over<R: Read, W: Write, E: Write>(
     ensures outcome { IsPlannedRun request.now
         (use_of (bytes_left R.remaining) instance.old instance.new)
         (use_of W.contents console.old.writer console.new.writer) result }
-    ensures untold { is_told ≡ false → console.new.errors ≡ console.old.errors }
+    ensures unsaid { console.new.errors ≡ console.old.errors }
 {
     let alloc = console.alloc;
-    if is_told && console.is_terminal {
-        let effort = shown_on(&mut console.errors, steps);
+    if is_told && let Some(terminal) = &mut console.terminal {
+        let effort = shown_on(terminal, steps);
         plan_any(alloc, request, effort, instance, &mut console.writer)
     } else {
         let effort: Effort<StepLine<'_, E>> = Effort::untold(steps);
@@ -159,8 +159,7 @@ pub(crate) fn rate_over<R: Read, S: Read, W: Write, E: Write>(
         (use_of (bytes_left R.remaining) instance.old instance.new)
         (use_of (bytes_left S.remaining) answer.old answer.new)
         (use_of W.contents console.old.writer console.new.writer) result }
-    ensures untold { evaluating.now.options.telling.explain ≡ false →
-        console.new.errors ≡ console.old.errors }
+    ensures unsaid { console.new.errors ≡ console.old.errors }
 {
     let is_told = evaluating.options.telling.explain;
     let steps = evaluating.steps;
@@ -181,7 +180,7 @@ pub(crate) fn rate_over<R: Read, S: Read, W: Write, E: Write>(
     run_rate(console.alloc, asked, instance, answer, &mut console.writer)
 }
 
-/// Runs an assessment, and shows the progress where `is_told` and on a terminal.
+/// Runs an assessment, and shows the progress as [`bound_over`] does.
 pub(crate) fn assess_over<R: Read, S: Read, W: Write, E: Write>(
     console: &mut Console<W, E>,
     is_told: bool,
@@ -193,14 +192,14 @@ pub(crate) fn assess_over<R: Read, S: Read, W: Write, E: Write>(
         (use_of (bytes_left R.remaining) instance.old instance.new)
         (use_of (bytes_left S.remaining) answer.old answer.new)
         (use_of W.contents console.old.writer console.new.writer) result }
-    ensures untold { is_told ≡ false → console.new.errors ≡ console.old.errors }
+    ensures unsaid { console.new.errors ≡ console.old.errors }
 {
     let alloc = console.alloc;
     let AssessmentRequest { request, aids } = asked;
     let Aids { effort, offered } = aids;
     let steps = effort.steps;
-    if is_told && console.is_terminal {
-        let effort = shown_on(&mut console.errors, steps);
+    if is_told && let Some(terminal) = &mut console.terminal {
+        let effort = shown_on(terminal, steps);
         let aids = Aids { effort, offered };
         let asked = AssessmentRequest { request, aids };
         run_assess(alloc, asked, instance, answer, &mut console.writer)
@@ -226,14 +225,14 @@ pub(crate) fn orders_over<R: Read, S: Read, W: Write, E: Write>(
         (use_of (bytes_left R.remaining) instance.old instance.new)
         (use_of (bytes_left S.remaining) orders.old orders.new)
         (use_of W.contents console.old.writer console.new.writer) result }
-    ensures untold { is_told ≡ false → console.new.errors ≡ console.old.errors }
+    ensures unsaid { console.new.errors ≡ console.old.errors }
 {
     let alloc = console.alloc;
     let Measuring { aids, others } = measuring;
     let Aids { effort, offered } = aids;
     let steps = effort.steps;
-    if is_told && console.is_terminal {
-        let effort = shown_on(&mut console.errors, steps);
+    if is_told && let Some(terminal) = &mut console.terminal {
+        let effort = shown_on(terminal, steps);
         let aids = Aids { effort, offered };
         let measuring = Measuring { aids, others };
         run_orders(
@@ -260,11 +259,11 @@ pub(crate) fn orders_over<R: Read, S: Read, W: Write, E: Write>(
 }
 
 /// An effort of so many steps that a terminal shows.
-fn shown_on<E: Write>(errors: &mut Counted<E>, steps: Option<u32>) -> Effort<StepLine<'_, E>> {
+fn shown_on<E: Write>(terminal: &mut Counted<E>, steps: Option<u32>) -> Effort<StepLine<'_, E>> {
     Effort {
         steps,
         progress: Some(StepLine {
-            errors,
+            terminal,
             is_shown: false,
             cost: 0,
             percent: 0,

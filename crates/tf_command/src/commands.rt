@@ -15,10 +15,11 @@ ghost use Rattle.tf_text.specs.Counted.{inner_of, use_of};
 
 use crate::bounding::{assess_over, bound_over, plan_over, rate_over};
 use crate::console::Console;
-use crate::explained::{Ended, tell, tell_drawn};
+use crate::explained::{Ended, tell_drawn};
 use crate::picturing::picture_named;
 use crate::problems::{list_border, list_problems};
 use crate::rating::rate_orders;
+use crate::reading::say_unopened;
 use crate::recorded::{MOST_BESIDE, MOST_KEPT, Recorded, room};
 use crate::report::{
     end_check, end_evaluation, end_plan, end_run, report_bound, say_device, say_memory,
@@ -36,7 +37,6 @@ use tf_engine::fault::RunFault;
 use tf_engine::run_check::run_check;
 use tf_engine::run_gantt::run_gantt;
 use tf_engine::run_solve::run_solve;
-use tf_explain::explain;
 use tf_options::options::{Assessing, Drawing, Evaluating, Options, Work};
 use tf_picture::run_picture::run_picture;
 use tf_random::run_random::{Wanted, run_random};
@@ -355,12 +355,8 @@ pub(crate) fn open<'a, S: Sources, W: Write, E: Write>(
             Ok(Counted::new(Recorded::new(name, source, most, kept)))
         }
         Err(error) => {
-            let status = say_device(&mut console.errors);
-            if explain {
-                let explanation = explain::not_read(console.alloc, name, &error);
-                tell(explanation, &mut console.errors);
-            }
-            Err(status)
+            let alloc = console.alloc;
+            Err(say_unopened(alloc, &mut console.errors, name, &error, explain))
         }
     }
 }
@@ -384,15 +380,13 @@ fn solve<R: Read, W: Write, E: Write>(
     };
     let run = run_solve(alloc, &request, instance, &mut console.writer);
     let status = end_run(&run, &mut console.errors);
-    if options.telling.explain {
-        let ended = Ended {
-            alloc,
-            telling: options.telling,
-            request: &request,
-        };
-        ended.tell_solved(&run, instance.inner(), &mut console.errors);
-        ended.tell_bound(&run, &mut console.errors);
-    }
+    let ended = Ended {
+        alloc,
+        telling: options.telling,
+        request: &request,
+    };
+    ended.tell_solved(&run, instance.inner(), &mut console.errors);
+    ended.tell_bound(&run, &mut console.errors);
     status
 }
 
@@ -415,14 +409,12 @@ fn bound<R: Read, W: Write, E: Write>(
     };
     let run = bound_over(console, &request, steps, options.telling.explain, instance);
     let status = end_run(&run, &mut console.errors);
-    if options.telling.explain {
-        let ended = Ended {
-            alloc,
-            telling: options.telling,
-            request: &request,
-        };
-        ended.tell_solved(&run, instance.inner(), &mut console.errors);
-    }
+    let ended = Ended {
+        alloc,
+        telling: options.telling,
+        request: &request,
+    };
+    ended.tell_solved(&run, instance.inner(), &mut console.errors);
     status
 }
 
@@ -446,14 +438,12 @@ fn plan<R: Read, W: Write, E: Write>(
     };
     let run = plan_over(console, &request, steps, options.telling.explain, instance);
     let status = end_plan(&run, &mut console.errors);
-    if options.telling.explain {
-        let ended = Ended {
-            alloc,
-            telling: options.telling,
-            request: &request,
-        };
-        ended.tell_planned(&run, instance.inner(), &mut console.errors);
-    }
+    let ended = Ended {
+        alloc,
+        telling: options.telling,
+        request: &request,
+    };
+    ended.tell_planned(&run, instance.inner(), &mut console.errors);
     status
 }
 
@@ -476,15 +466,13 @@ fn trace<R: Read, W: Write, E: Write>(
     };
     let run = run_trace(alloc, &request, style, instance, &mut console.writer);
     let status = end_run(&run, &mut console.errors);
-    if options.telling.explain {
-        let ended = Ended {
-            alloc,
-            telling: options.telling,
-            request: &request,
-        };
-        ended.tell_solved(&run, instance.inner(), &mut console.errors);
-        ended.tell_bound(&run, &mut console.errors);
-    }
+    let ended = Ended {
+        alloc,
+        telling: options.telling,
+        request: &request,
+    };
+    ended.tell_solved(&run, instance.inner(), &mut console.errors);
+    ended.tell_bound(&run, &mut console.errors);
     status
 }
 
@@ -508,15 +496,13 @@ fn check<R: Read, S: Read, W: Write, E: Write>(
     };
     let run = run_check(alloc, &request, instance, answer, &mut console.writer);
     let status = end_check(&run, &mut console.errors);
-    if options.telling.explain {
-        let ended = Ended {
-            alloc,
-            telling: options.telling,
-            request: &request,
-        };
-        ended.tell_checked(&run, instance.inner(), answer.inner(), &mut console.errors);
-        ended.tell_bound(&run, &mut console.errors);
-    }
+    let ended = Ended {
+        alloc,
+        telling: options.telling,
+        request: &request,
+    };
+    ended.tell_checked(&run, instance.inner(), answer.inner(), &mut console.errors);
+    ended.tell_bound(&run, &mut console.errors);
     status
 }
 
@@ -541,14 +527,12 @@ fn evaluate<R: Read, S: Read, W: Write, E: Write>(
     };
     let run = rate_over(console, evaluating, &request, instance, answer);
     let status = end_evaluation(&run, &mut console.errors);
-    if evaluating.options.telling.explain {
-        let ended = Ended {
-            alloc,
-            telling: evaluating.options.telling,
-            request: &request,
-        };
-        ended.tell_evaluated(&run, instance.inner(), answer.inner(), &mut console.errors);
-    }
+    let ended = Ended {
+        alloc,
+        telling: evaluating.options.telling,
+        request: &request,
+    };
+    ended.tell_evaluated(&run, instance.inner(), answer.inner(), &mut console.errors);
     status
 }
 
@@ -607,14 +591,12 @@ fn assess_offered<R: Read, S: Read, W: Write, E: Write>(
     let explain = options.telling.explain;
     let run = rated(assess_over(console, explain, asked, instance, answer));
     let status = end_evaluation(&run, &mut console.errors);
-    if explain {
-        let ended = Ended {
-            alloc,
-            telling: options.telling,
-            request: &request,
-        };
-        ended.tell_evaluated(&run, instance.inner(), answer.inner(), &mut console.errors);
-    }
+    let ended = Ended {
+        alloc,
+        telling: options.telling,
+        request: &request,
+    };
+    ended.tell_evaluated(&run, instance.inner(), answer.inner(), &mut console.errors);
     status
 }
 
@@ -633,10 +615,15 @@ fn gantt<R: Read, W: Write, E: Write>(
 {
     let run = draw(console.alloc, drawing, answer, &mut console.writer);
     let status = end_run(&run, &mut console.errors);
-    if explain {
-        let errors = &mut console.errors;
-        tell_drawn(&run, drawing, answer.inner(), errors, console.alloc);
-    }
+    let errors = &mut console.errors;
+    tell_drawn(
+        explain,
+        drawing,
+        &run,
+        answer.inner(),
+        errors,
+        console.alloc,
+    );
     status
 }
 

@@ -10,6 +10,6 @@ pub struct Console<W, E> {
     pub writer: Counted<W>,
     /// Standard error.
     pub errors: Counted<E>,
-    /// Whether standard error is a terminal, so that the progress of a search is shown there.
-    pub is_terminal: bool,
+    /// The terminal that shows the progress of a search, where standard error is one.
+    pub terminal: Option<Counted<E>>,
 }

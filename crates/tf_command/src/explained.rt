@@ -1,6 +1,6 @@
 //! What is said, in plain words, of a run that has ended.
-ghost use Rattle.std.specs.Prelude.{List, ℕ};
-ghost use Rattle.tf_command.specs.Wrote.{Wrote};
+ghost use Rattle.std.specs.Prelude.{[]};
+ghost use Rattle.tf_command.specs.Ending.{SaysLine};
 
 use crate::gathered::send;
 use crate::recorded::Recorded;
@@ -16,7 +16,7 @@ use tf_evaluate::evaluation::Standing;
 use tf_explain::explain;
 use tf_model::limit::LIMIT;
 use tf_model::prepare::Refusal;
-use tf_options::options::{Drawing, Idle, Telling};
+use tf_options::options::{Drawing, Telling};
 use tf_orders::again::pieces_again;
 use tf_orders::run_orders::{OrderForm, OrdersRated, OrdersRequest};
 use tf_planning::writing::Planned;
@@ -132,7 +132,9 @@ impl Dated<'_> {
         instance: &Recorded<'_, R>,
         answer: &Recorded<'_, S>,
         errors: &mut Counted<E>,
-    ) {
+    )
+        ensures { SaysLine E.contents self.now.telling.explain errors.old errors.new [] }
+    {
         if let Some(told) = Told::of_both(instance, answer) {
             let explanation = match run {
                 Ok(Pictured::Drawn) => Ok(String::new(self.alloc)),
@@ -181,7 +183,9 @@ impl Ended<'_> {
         run: &Result<(), RunFault>,
         instance: &Recorded<'_, R>,
         errors: &mut Counted<E>,
-    ) {
+    )
+        ensures { SaysLine E.contents self.now.telling.explain errors.old errors.new [] }
+    {
         if let Some(told) = Told::of_instance(instance) {
             let explanation = match run {
                 Ok(()) => explain::solved(self.alloc, self.request, &told.instance),
@@ -191,13 +195,34 @@ impl Ended<'_> {
         }
     }
 
-    /// Says what is to be said of the options and of a plan, where the instance was kept.
+    /// Says what is to be said of the options and of a plan, where the instance was kept, and how
+    /// good the plan is.
     pub fn tell_planned<R, E: Write>(
         &self,
         run: &Result<Planned, RunFault>,
         instance: &Recorded<'_, R>,
         errors: &mut Counted<E>,
-    ) {
+    )
+        ensures { SaysLine E.contents self.now.telling.explain errors.old errors.new [] }
+    {
+        self.tell_plan(run, instance, errors);
+        let standing = match run {
+            Ok(Planned::Optimal) => IS_OPTIMAL,
+            Ok(Planned::Open) => MAY_BE_BEATEN,
+            Err(_) => "",
+        };
+        tell_text(self.telling.explain, standing, errors);
+    }
+
+    // Says what is to be said of the options and of a plan.
+    fn tell_plan<R, E: Write>(
+        &self,
+        run: &Result<Planned, RunFault>,
+        instance: &Recorded<'_, R>,
+        errors: &mut Counted<E>,
+    )
+        ensures { SaysLine E.contents self.now.telling.explain errors.old errors.new [] }
+    {
         if let Some(told) = Told::of_instance(instance) {
             let explanation = match run {
                 Ok(_) => explain::solved(self.alloc, self.request, &told.instance),
@@ -205,18 +230,14 @@ impl Ended<'_> {
             };
             tell_behind(self.telling, explanation, errors);
         }
-        let standing = match run {
-            Ok(Planned::Optimal) => IS_OPTIMAL,
-            Ok(Planned::Open) => MAY_BE_BEATEN,
-            Err(_) => "",
-        };
-        let _ = errors.push_all(standing.as_bytes());
     }
 
     /// Says what else there is for a problem that has no solver.
-    pub fn tell_bound<T, E: Write>(&self, run: &Result<T, RunFault>, errors: &mut Counted<E>) {
+    pub fn tell_bound<T, E: Write>(&self, run: &Result<T, RunFault>, errors: &mut Counted<E>)
+        ensures { SaysLine E.contents self.now.telling.explain errors.old errors.new [] }
+    {
         if let Err(RunFault::Task(Refusal::NoSolver)) = run {
-            let _ = errors.push_all(MAY_BE_BOUNDED.as_bytes());
+            tell_text(self.telling.explain, MAY_BE_BOUNDED, errors);
         }
     }
 
@@ -227,7 +248,9 @@ impl Ended<'_> {
         instance: &Recorded<'_, R>,
         answer: &Recorded<'_, S>,
         errors: &mut Counted<E>,
-    ) {
+    )
+        ensures { SaysLine E.contents self.now.telling.explain errors.old errors.new [] }
+    {
         if let Some(told) = Told::of_both(instance, answer) {
             let explanation = match run {
                 Ok(checked) => {
@@ -247,7 +270,9 @@ impl Ended<'_> {
         instance: &Recorded<'_, R>,
         answer: &Recorded<'_, S>,
         errors: &mut Counted<E>,
-    ) {
+    )
+        ensures { SaysLine E.contents self.now.telling.explain errors.old errors.new [] }
+    {
         if let Some(told) = Told::of_both(instance, answer) {
             let explanation = match run {
                 Ok(Standing::Unfit) => {
@@ -337,7 +362,9 @@ impl Ended<'_> {
         instance: &Recorded<'_, R>,
         orders: &Recorded<'_, S>,
         errors: &mut Counted<E>,
-    ) {
+    )
+        ensures { SaysLine E.contents self.now.telling.explain errors.old errors.new [] }
+    {
         if let Some(told) = Told::of_both(instance, orders) {
             let explanation = match rated.run {
                 Ok(OrdersRated::Single(Standing::Unfit)) => self.unfit_rated(&rated, &told),
@@ -355,19 +382,22 @@ impl Ended<'_> {
 
 /// Says what is to be said of a drawing, where the answer was kept.
 pub fn tell_drawn<R, E: Write>(
-    run: &Result<(), RunFault>,
+    explain: bool,
     drawing: Drawing,
+    run: &Result<(), RunFault>,
     answer: &Recorded<'_, R>,
     errors: &mut Counted<E>,
     alloc: Global,
-) {
+)
+    ensures { SaysLine E.contents explain errors.old errors.new [] }
+{
     let Some(text) = answer.source() else {
         return;
     };
     match run {
         Ok(()) => {
             if matches!(drawing, Drawing::Chart { .. }) && shares_signs(&text) {
-                let _ = errors.push_all(SIGNS_SHARED.as_bytes());
+                tell_text(explain, SIGNS_SHARED, errors);
             }
         }
         Err(fault) => {
@@ -375,7 +405,7 @@ pub fn tell_drawn<R, E: Write>(
                 Some((name, error)) => explain::not_read(alloc, name, &error),
                 None => explain::not_drawn(alloc, fault, &text),
             };
-            tell(explanation, errors);
+            tell(explain, explanation, errors);
         }
     }
 }
@@ -396,38 +426,52 @@ fn tell_behind<E: Write>(
     telling: Telling,
     explanation: Result<String, AllocError>,
     errors: &mut Counted<E>,
-) {
-    tell_idle(telling.idle, errors);
-    tell(explanation, errors);
+)
+    ensures { SaysLine E.contents telling.explain errors.old errors.new [] }
+{
+    tell_idle(telling, errors);
+    tell(telling.explain, explanation, errors);
 }
 
-fn tell_idle<E: Write>(idle: Idle, errors: &mut Counted<E>) {
-    let options = [
-        (
-            idle.jobs,
-            "--jobs belongs to --format wt, and is ignored here.\n",
-        ),
-        (
-            idle.name,
-            "--name belongs to --format flow, and is ignored here.\n",
-        ),
-        (
-            idle.pair,
-            "--pair belongs to --format flow, and is ignored here.\n",
-        ),
-    ];
-    for (is_idle, text) in options {
-        if is_idle {
-            let _ = errors.push_all(text.as_bytes());
-        }
+/// Says which options are ignored.
+fn tell_idle<E: Write>(telling: Telling, errors: &mut Counted<E>)
+    ensures { SaysLine E.contents telling.explain errors.old errors.new [] }
+{
+    let jobs = "--jobs belongs to --format wt, and is ignored here.\n";
+    tell_option(telling, telling.idle.jobs, jobs, errors);
+    let name = "--name belongs to --format flow, and is ignored here.\n";
+    tell_option(telling, telling.idle.name, name, errors);
+    let pair = "--pair belongs to --format flow, and is ignored here.\n";
+    tell_option(telling, telling.idle.pair, pair, errors);
+}
+
+/// Says this of an option that is ignored.
+fn tell_option<E: Write>(telling: Telling, is_idle: bool, text: &str, errors: &mut Counted<E>)
+    ensures { SaysLine E.contents telling.explain errors.old errors.new [] }
+{
+    if is_idle {
+        tell_text(telling.explain, text, errors);
     }
 }
 
-/// Says what is explained, if there was memory for it.
-pub fn tell<E: Write>(explanation: Result<String, AllocError>, errors: &mut Counted<E>)
-    ensures { (text : List ℕ) × Wrote E.contents errors.old errors.new text }
+/// Says what is explained, where that is asked for, and if there was memory for it.
+pub fn tell<E: Write>(
+    explain: bool,
+    explanation: Result<String, AllocError>,
+    errors: &mut Counted<E>,
+)
+    ensures { SaysLine E.contents explain errors.old errors.new [] }
 {
     if let Ok(text) = explanation {
+        tell_text(explain, text.as_str(), errors);
+    }
+}
+
+/// Says this, where explanations are asked for.
+fn tell_text<E: Write>(explain: bool, text: &str, errors: &mut Counted<E>)
+    ensures { SaysLine E.contents explain errors.old errors.new [] }
+{
+    if explain {
         send(errors, text.as_bytes());
     }
 }

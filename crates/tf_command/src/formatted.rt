@@ -84,7 +84,7 @@ pub fn memory(alloc: Global) -> Console<Vec<u8>, Vec<u8>>
         alloc,
         writer: Counted::new(Vec::new(alloc)),
         errors: Counted::new(Vec::new(alloc)),
-        is_terminal: false,
+        terminal: None,
     }
 }
 

@@ -59,13 +59,11 @@ fn picture<R: Read, S: Read, W: Write, E: Write>(
     };
     let run = run_dated(alloc, asked, instance, answer, &mut console.writer);
     let status = end_picture(&run, &mut console.errors);
-    if picturing.telling.explain {
-        let dated = Dated {
-            alloc,
-            telling: picturing.telling,
-            form: &form,
-        };
-        dated.tell(&run, instance.inner(), answer.inner(), &mut console.errors);
-    }
+    let dated = Dated {
+        alloc,
+        telling: picturing.telling,
+        form: &form,
+    };
+    dated.tell(&run, instance.inner(), answer.inner(), &mut console.errors);
     status
 }

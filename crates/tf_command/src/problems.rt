@@ -5,11 +5,10 @@ ghost use Rattle.tf_command.specs.Performing.{EndsListing, EndsListingFor, EndsO
 ghost use Rattle.tf_command.specs.Performing.{EndsTelling, Performs};
 ghost use Rattle.tf_command.specs.Recorded.{bytes_left};
 ghost use Rattle.tf_command.specs.Statuses.{status_of};
-ghost use Rattle.tf_command.specs.Wrote.{Wrote};
 ghost use Rattle.tf_engine.specs.FormData.{InTable};
 ghost use Rattle.tf_engine.specs.Parts.{ReadsTo, instance_said};
 ghost use Rattle.std.specs.Option.{option_map};
-ghost use Rattle.std.specs.Prelude.{◌≡◌, ◌++◌, List, ℕ, IfOk, false, true};
+ghost use Rattle.std.specs.Prelude.{◌≡◌, IfOk, false, true};
 ghost use Rattle.tf_text.specs.Counted.{inner_of, use_of};
 
 use crate::commands::{open, write_out};
@@ -71,7 +70,7 @@ fn list_named<S: Sources, W: Write, E: Write>(
         (SaysLine E.contents true console.old.errors console.new.errors) result
         (λ table. EndsListingFor listed table
         (use_of W.contents console.old.writer console.new.writer)
-        (SaysLine E.contents false console.old.errors console.new.errors) result) }
+        (λ explain. SaysLine E.contents explain console.old.errors console.new.errors) result) }
 {
     match open(console, sources, name, MOST_KEPT, true) {
         Ok(mut table) => list_for(console, listed, &mut table),
@@ -87,7 +86,7 @@ fn list_for<R: Read, W: Write, E: Write>(
 ) -> u8
     ensures { EndsListingFor listed (use_of (bytes_left R.remaining) table.old table.new)
         (use_of W.contents console.old.writer console.new.writer)
-        (SaysLine E.contents false console.old.errors console.new.errors) result }
+        (λ explain. SaysLine E.contents explain console.old.errors console.new.errors) result }
 {
     match table_in(console.alloc, table) {
         Ok(instance) => list(console, listed, Some(&instance)),
@@ -103,8 +102,8 @@ fn refuse_table<R, W, E: Write>(
 ) -> u8
     ensures unwritten { console.new.writer ≡ console.old.writer }
     ensures status { result ≡ status_of fault.now }
-    ensures line { (explanation : List ℕ) × Wrote E.contents console.old.errors console.new.errors
-        (fault_line fault.now ++ explanation) }
+    ensures line { SaysLine E.contents true console.old.errors console.new.errors
+        (fault_line fault.now) }
 {
     let alloc = console.alloc;
     let status = report(fault, &mut console.errors);
@@ -113,7 +112,7 @@ fn refuse_table<R, W, E: Write>(
         (RunFault::Text(fault), None, Some(text)) => explain::not_listed(alloc, fault, &text),
         _ => Ok(String::new(alloc)),
     };
-    tell(explanation, &mut console.errors);
+    tell(true, explanation, &mut console.errors);
     status
 }
 

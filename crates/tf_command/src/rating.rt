@@ -414,18 +414,16 @@ fn rate<R: Read, S: Read, W: Write, E: Write>(
     let measuring = Measuring { aids, others };
     let run = orders_over(console, explain, asked, measuring, instance, orders);
     let status = end_rating(&run, &mut console.errors);
-    if explain {
-        let ended = Ended {
-            alloc,
-            telling: options.telling,
-            request: &request,
-        };
-        let rated = Rated {
-            form,
-            is_bounded,
-            run: &run,
-        };
-        ended.tell_rated(rated, instance.inner(), orders.inner(), &mut console.errors);
-    }
+    let ended = Ended {
+        alloc,
+        telling: options.telling,
+        request: &request,
+    };
+    let rated = Rated {
+        form,
+        is_bounded,
+        run: &run,
+    };
+    ended.tell_rated(rated, instance.inner(), orders.inner(), &mut console.errors);
     status
 }

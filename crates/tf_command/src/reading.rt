@@ -6,7 +6,7 @@ ghost use Rattle.tf_command.specs.Ending.{SaysLine};
 ghost use Rattle.tf_command.specs.Unread.{IsUnread};
 
 use crate::console::Console;
-use crate::gathered::send;
+use crate::explained::tell;
 use crate::report::{report, say_device};
 use crate::source::Sources;
 use std::alloc::Global;
@@ -45,7 +45,7 @@ pub fn text_named<S: Sources, W: Write, E: Write>(
 
 /// Says that the text of that name cannot be opened, and why if that is to be explained, and gives
 /// the status.
-fn say_unopened<E: Write>(
+pub(crate) fn say_unopened<E: Write>(
     alloc: Global,
     errors: &mut Counted<E>,
     name: &str,
@@ -57,8 +57,6 @@ fn say_unopened<E: Write>(
         (codes "threefield: device fault\n") }
 {
     let status = say_device(errors);
-    if explain && let Ok(reason) = not_read(alloc, name, error) {
-        send(errors, reason.as_bytes());
-    }
+    tell(explain, not_read(alloc, name, error), errors);
     status
 }

@@ -53,11 +53,17 @@ fn program(rt: &HostRuntime) -> u8 {
     let Ok(command) = command(rt.alloc()) else {
         return say_early_memory(&mut errors, words);
     };
-    let line = understand(command, words, rt.stderr().is_terminal());
+    let is_terminal = rt.stderr().is_terminal();
+    let line = understand(command, words, is_terminal);
     if let Asked::NoMemory = line.asked {
         return say_early_memory(&mut errors, words);
     }
-    let mut console = console(rt, errors, Output::of(rt, line.output));
+    let terminal = if is_terminal {
+        Some(Counted::new(rt.stderr()))
+    } else {
+        None
+    };
+    let mut console = console(rt, errors, terminal, Output::of(rt, line.output));
     let status = perform_asked(&mut console, &Files { rt }, line.asked, words);
     end_output(&mut console, status)
 }
@@ -72,17 +78,19 @@ fn say_early_memory<E: Write>(errors: &mut Counted<E>, words: &[String]) -> u8 {
     say_memory(errors)
 }
 
-/// Where the output goes, standard error and the memory of the process.
+/// Where the output goes, standard error, the terminal that it is, if it is one, and the memory of the
+/// process.
 fn console<'a, E: Write + Drop>(
     rt: &'a HostRuntime,
     errors: Counted<E>,
+    terminal: Option<Counted<E>>,
     output: Output<'a>,
 ) -> Console<Output<'a>, E> {
     Console {
         alloc: rt.alloc(),
         writer: Counted::new(output),
         errors,
-        is_terminal: rt.stderr().is_terminal(),
+        terminal,
     }
 }
 

@@ -4,6 +4,7 @@ use Rattle.tf_text.specs.Counted.{inner_of}
 use Rattle.tf_engine.specs.declared.fault.RunFault.TheVariants.{OutOfMemory}
 use Rattle.tf_engine.proofs.Unread.{text_for}
 use Rattle.tf_command.specs.Recorded.{bytes_left}
+use Rattle.tf_command.proofs.Saying.{says_alone, says_explained}
 use Rattle.tf_command.proofs.commands.bound.Goals as goal
 
 pub returns-in_default : goal.returns-in_default
@@ -13,5 +14,14 @@ returns-in_default g c =
       run = Err OutOfMemory;
       outcome = record { text = text; is_all = is; outcome = Keeps-refl _ };
       ends = c.say_memory.ensures.status;
-      said = λ _. c.say_memory.ensures.line;
+      said = says_alone c.say_memory.ensures.line;
     }
+
+pub returns : goal.returns
+returns g c = record {
+  run = c.bound_over-run.result;
+  outcome = rw (← c.in-Ok.ensures) c.bound_over-run.ensures.outcome;
+  ends = c.end_run-status.ensures.status;
+  said = rw (← c.bound_over-run.ensures.unsaid)
+      (says_explained c.end_run-status.ensures.line c.tell_solved.ensures);
+}

@@ -4,6 +4,7 @@ use Rattle.tf_text.specs.Counted.{inner_of}
 use Rattle.tf_engine.specs.declared.fault.RunFault.TheVariants.{OutOfMemory}
 use Rattle.tf_engine.proofs.Unread.{text_for}
 use Rattle.tf_command.specs.Recorded.{bytes_left}
+use Rattle.tf_command.proofs.Saying.{says_alone, says_explained}
 use Rattle.tf_command.proofs.picturing.picture.Goals as goal
 
 pub returns-in_default : goal.returns-in_default
@@ -17,5 +18,13 @@ returns-in_default g c =
         outcome = inl (record { stopped = tt; unwritten = Keeps-refl _ });
       };
       ends = c.say_memory.ensures.status;
-      said = λ _. c.say_memory.ensures.line;
+      said = says_alone c.say_memory.ensures.line;
     }
+
+pub returns : goal.returns
+returns g c = record {
+  run = c.run_dated-run.result;
+  outcome = rw (← c.in-Ok.ensures) c.run_dated-run.ensures.outcome;
+  ends = c.end_picture-status.ensures.status;
+  said = says_explained c.end_picture-status.ensures.line c.tell.ensures;
+}

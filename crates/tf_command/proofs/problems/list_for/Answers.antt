@@ -7,7 +7,6 @@ use Rattle.tf_command.proofs.problems.list_for.Goals as goal
 pub returns-in-Err : goal.returns-in-Err
 returns-in-Err g c =
     let had = c.in-Err.ensures.read in
-    let (explanation, said) = c.refuse_table.ensures.line in
     inr (record {
       text = had.text;
       is_all = had.is_all;
@@ -17,6 +16,5 @@ returns-in-Err g c =
           (λ w. Keeps (g.W.Write.contents (inner_of c.args.console.now.writer))
           (g.W.Write.contents (inner_of w))) (sym c.refuse_table.ensures.unwritten) (Keeps-refl _);
       ends = c.refuse_table.ensures.status;
-      explanation = explanation;
-      said = λ _. said;
+      said = c.refuse_table.ensures.line;
     })

@@ -5,6 +5,7 @@ use Rattle.tf_command.specs.Unread.{IsNotRead}
 use Rattle.tf_command.proofs.Unread.{not_read}
 use Rattle.std.proofs.KnownBytes.{Keeps-refl}
 use Rattle.tf_engine.specs.declared.fault.RunFault.TheVariants.{Device}
+use Rattle.tf_command.proofs.Saying.{says_alone}
 use Rattle.tf_command.proofs.reading.text_named.Goals as goal
 
 pub returns-in-Err-clause-unread : goal.returns-in-Err-clause-unread
@@ -29,5 +30,5 @@ returns-clause-unread g c =
           c.in-Err-read_all.fault c.in-Ok.ensures.opened long);
       unwritten = Keeps-refl _;
       ends = c.report.ensures.status;
-      said = λ _. c.report.ensures.line;
+      said = says_alone c.report.ensures.line;
     }

@@ -5,6 +5,7 @@ use Rattle.tf_text.specs.Counted.{inner_of, use_of}
 use Rattle.tf_engine.specs.declared.fault.RunFault.TheVariants.{OutOfMemory}
 use Rattle.tf_command.specs.Ending.{SaysLine}
 use Rattle.tf_command.specs.Wrote.{Wrote}
+use Rattle.tf_command.proofs.Saying.{says_alone}
 use Rattle.tf_held.specs.Shops.{EndsShop, IsLineFor}
 use Rattle.tf_held.proofs.Counted.{over_file}
 use Rattle.tf_held.proofs.shops.perform_counted.Goals as goal
@@ -23,9 +24,9 @@ returns-in_default-line_for g c =
             (g.W.Write.contents (inner_of c.args.console.now.writer))
             (g.W.Write.contents (inner_of console.writer))) (sym same) (Keeps-refl _);
         ends = c.say_memory.ensures.status;
-        said = λ _. subst (λ console. Wrote g.E.Write.contents console.errors
+        said = says_alone (subst (λ console. Wrote g.E.Write.contents console.errors
             c.say_memory.new.writer (codes "threefield: want of memory\n")) same
-            c.say_memory.ensures.line;
+            c.say_memory.ensures.line);
       }),
     )
 
