@@ -3,7 +3,8 @@
 
     python3 bench/small_tasks.py PROGRAM [COUNT [SEED [STEPS]]]
 
-Draws COUNT tasks of two to four jobs in every environment, with conditions and an objective, computes the least cost by walking
+Draws COUNT tasks of two to four jobs in every environment, with conditions and an objective (in a shop where no job waits one may
+take no time), computes the least cost by walking
 over all timetables row by row, from the definitions alone, and runs `bound`, `plan` and `evaluate`. No bound may be above the
 least cost and no plan below it; the plan has to fit, to cost what it says, and to be called optimal only where it is. Then a
 piece of the plan is moved: `evaluate` has to say the same as the definitions, whether the schedule fits and what it costs. In a

@@ -44,8 +44,9 @@ def task_of(problem, machines, jobs, arcs, own, routes=None):
     demand(given == {2} if problem.env in "FO" else len(given) == 1, "the number of machines")
     needed = ["p"] + ["r"] * ("rj" in problem.conditions) + ["w"] * ("w" in goal) + ["d"] * (goal == "Lmax" or goal[-1] in "TU")
     times = max(given) if problem.env in "FOJ" else 1
+    may_rest = problem.env in "FOJ" and not {"rj", "prec"} & set(problem.conditions)
     for job in jobs.values():
-        demand(len(job["p"]) == times and sum(job["p"]) > 0 and all(key in job for key in needed), "times, or a field is missing")
+        demand(len(job["p"]) == times and (sum(job["p"]) > 0 or may_rest) and all(key in job for key in needed), "times, or a field is missing")
     visited = {j: [i - 1 for i in routes[j]] if routes else list(range(times)) if problem.env == "F" else [] for j in jobs}
     picked = {key: {j: job[key] if key in needed else other for j, job in jobs.items()} for key, other in (("r", 0), ("w", 1), ("d", 0))}
     return Record(env=problem.env, goal=goal, conditions=problem.conditions, machines=given.pop(), jobs=list(jobs), route=visited, **picked,

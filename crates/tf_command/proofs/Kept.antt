@@ -4,7 +4,7 @@ use Rattle.tf_text.specs.Counted.{DeviceUse, inner_of, use_of}
 use Rattle.tf_command.specs.Ending.{SaysLine}
 use Rattle.tf_command.specs.Wrote.{Wrote}
 use Rattle.tf_command.specs.Formatted.{EndsFormatted, EndsKept, Memory, held}
-use Rattle.tf_options.specs.declared.format.Format.{Format}
+use Rattle.tf_asked.specs.declared.format.Format.{Format}
 
 -- what was done with its texts kept in memory is written
 pub printed : (Does : DeviceUse → (List ℕ → Type 0) → (Bool → List ℕ → Type 0) → ℕ → Type 0)

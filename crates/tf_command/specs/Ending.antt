@@ -26,8 +26,8 @@ use Rattle.tf_orders.specs.RunOrders.{IsOrdersRunOf}
 use Rattle.tf_bound_text.specs.BoundSheetData.{BoundSheetData}
 use Rattle.tf_bounding.specs.RunBounding.{IsBoundingOf}
 use Rattle.tf_trace.specs.RunTracing.{IsTraceOf}
-use Rattle.tf_options.specs.declared.options.Drawing.{Drawing}
-use Rattle.tf_options.specs.declared.options.Drawing.TheVariants.{Chart, Picture}
+use Rattle.tf_asked.specs.declared.options.Drawing.{Drawing}
+use Rattle.tf_asked.specs.declared.options.Drawing.TheVariants.{Chart, Picture}
 use Rattle.tf_text.specs.declared.counted.Counted.{Counted}
 use Rattle.tf_command.specs.Statuses.{status_of, status_of_check, status_of_standing}
 use Rattle.tf_command.specs.FaultLine.{fault_line, refused_line}

@@ -12,8 +12,8 @@ use Rattle.tf_export.specs.Tally.{summarized}
 use Rattle.tf_command.specs.Ending.{SaysLine}
 use Rattle.tf_command.specs.Wrote.{Wrote}
 use Rattle.tf_command.specs.declared.console.Console.{Console}
-use Rattle.tf_options.specs.declared.format.Format.{Format}
-use Rattle.tf_options.specs.declared.format.Format.TheVariants.{Json, Csv, OrderRows, MeasuredRows, Summary}
+use Rattle.tf_asked.specs.declared.format.Format.{Format}
+use Rattle.tf_asked.specs.declared.format.Format.TheVariants.{Json, Csv, OrderRows, MeasuredRows, Summary}
 
 -- a text that a command printed, in a format, and nothing where it printed nothing
 abbrev pub formatted : Format → List ℕ → List ℕ

@@ -12,12 +12,12 @@ use Rattle.tf_text.specs.Input.{IsTextOf}
 use Rattle.tf_text.specs.declared.answer.layout.Layout.TheVariants.{Two}
 use Rattle.tf_orders.specs.declared.run_orders.OrderForm.{OrderForm}
 use Rattle.tf_orders.specs.declared.run_orders.OrderForm.TheVariants.{Single, Lines, Numbered, Ruled as ByRule, Pieces}
-use Rattle.tf_options.specs.declared.options.Work.{Work as Asking}
-use Rattle.tf_options.specs.declared.options.Work.TheVariants.{Solve, Bound, Plan, Trace, Check, Evaluate, Assess, Rate, Gantt, Random, Problems, Border, Picture}
-use Rattle.tf_options.specs.declared.options.OrderSource.{OrderSource}
-use Rattle.tf_options.specs.declared.options.OrderSource.TheVariants.{Given, Ruled, Named, Drawn}
-use Rattle.tf_options.specs.declared.options.Options.{Options}
-use Rattle.tf_options.specs.Asking.{requested, form_asked}
+use Rattle.tf_asked.specs.declared.options.Work.{Work as Asking}
+use Rattle.tf_asked.specs.declared.options.Work.TheVariants.{Solve, Bound, Plan, Trace, Check, Evaluate, Assess, Rate, Gantt, Random, Problems, Border, Picture}
+use Rattle.tf_asked.specs.declared.options.OrderSource.{OrderSource}
+use Rattle.tf_asked.specs.declared.options.OrderSource.TheVariants.{Given, Ruled, Named, Drawn}
+use Rattle.tf_asked.specs.declared.options.Options.{Options}
+use Rattle.tf_asked.specs.Asking.{requested, form_asked}
 use Rattle.tf_random.specs.Asked.{IsTableFor, IsFaultOf}
 use Rattle.tf_random.specs.declared.run_random.RandomFault.{RandomFault}
 use Rattle.tf_random.specs.declared.run_random.Wanted.{Wanted}

@@ -1,7 +1,7 @@
 //! The commands, over whatever gives and takes bytes.
 ghost use Rattle.std.specs.declared.alloc.Global.{Global};
-ghost use Rattle.tf_options.specs.Asking.{requested};
-ghost use Rattle.tf_options.specs.Columns.{HasWidth, IsSized};
+ghost use Rattle.tf_asked.specs.Asking.{requested};
+ghost use Rattle.tf_asked.specs.Columns.{HasWidth, IsSized};
 ghost use Rattle.tf_command.specs.Ending.{EndsSolving, EndsBounding, EndsTracing, EndsChecking};
 ghost use Rattle.tf_command.specs.Ending.{EndsEvaluating, EndsDrawing, SaysLine};
 ghost use Rattle.tf_command.specs.Ending.{drawn_as};
@@ -28,6 +28,7 @@ use crate::report::{
 use crate::source::Sources;
 use std::alloc::{Allocator, Global};
 use std::io::{Read, Write};
+use tf_asked::options::{Assessing, Drawing, Evaluating, Options, Work};
 use tf_assess::bound_read::bound_read;
 use tf_assess::offered::Aids;
 use tf_assess::run_assess::AssessmentRequest;
@@ -37,7 +38,6 @@ use tf_engine::fault::RunFault;
 use tf_engine::run_check::run_check;
 use tf_engine::run_gantt::run_gantt;
 use tf_engine::run_solve::run_solve;
-use tf_options::options::{Assessing, Drawing, Evaluating, Options, Work};
 use tf_picture::run_picture::run_picture;
 use tf_random::run_random::{Wanted, run_random};
 use tf_search::effort::{Effort, Nobody};

@@ -10,13 +10,13 @@ use crate::console::Console;
 use crate::gathered::send;
 use std::alloc::Global;
 use std::io::Write;
+use tf_asked::format::Format;
 use tf_export::csv::csv;
 use tf_export::documents::json;
 use tf_export::faults::fault_json;
 use tf_export::order_rows::orders_csv;
 use tf_export::tally::summarized;
 use tf_model::memory::OutOfMemory;
-use tf_options::format::Format;
 use tf_text::counted::Counted;
 
 /// What is said as JSON where there was no memory.

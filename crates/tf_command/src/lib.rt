@@ -8,7 +8,6 @@ pub mod console;
 mod explained;
 pub mod formatted;
 pub mod gathered;
-pub mod misuse;
 mod picturing;
 pub mod planning;
 pub mod problems;

@@ -1,7 +1,7 @@
 //! Pictures with the dates of an instance.
 ghost use Rattle.std.specs.Prelude.{◌≡◌, IfOk};
 ghost use Rattle.std.specs.declared.alloc.Global.{Global};
-ghost use Rattle.tf_options.specs.Asking.{form_asked};
+ghost use Rattle.tf_asked.specs.Asking.{form_asked};
 ghost use Rattle.tf_command.specs.Ending.{EndsPicturing, SaysLine};
 ghost use Rattle.tf_command.specs.Performing.{Performs};
 ghost use Rattle.tf_command.specs.Recorded.{bytes_left};
@@ -14,8 +14,8 @@ use crate::recorded::Recorded;
 use crate::report::{end_picture, say_memory};
 use crate::source::Sources;
 use std::io::{Read, Write};
+use tf_asked::options::{Picturing, Work};
 use tf_dated::run_dated::{DatedRequest, run_dated};
-use tf_options::options::{Picturing, Work};
 use tf_text::counted::Counted;
 
 /// Draws the answer of that name with the dates of the instance of that name.

@@ -20,13 +20,13 @@ use crate::source::Sources;
 use std::alloc::Allocator;
 use std::io::{Read, Write};
 use tf_advice::border_list::border_list;
+use tf_asked::options::Work;
 use tf_bounding::instance_read::instance_read;
 use tf_engine::fault::RunFault;
 use tf_engine::request::Form;
 use tf_explain::explain;
 use tf_listing::listing::{Listed, listing};
 use tf_model::instance::Instance;
-use tf_options::options::Work;
 use tf_text::counted::Counted;
 
 /// Lists the problems that are solved or bounded, with the name of a table those that it has the

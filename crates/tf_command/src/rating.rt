@@ -1,8 +1,8 @@
 //! Evaluating the schedules of orders and of pieces, over whatever gives and takes bytes.
 ghost use Rattle.std.specs.Prelude.{◌≡◌, false, Some, IfOk, IfErr};
 ghost use Rattle.std.specs.declared.alloc.Global.{Global};
-ghost use Rattle.tf_options.specs.Asking.{requested};
-ghost use Rattle.tf_options.specs.declared.options.Work.TheVariants.{Rate as RatesBy};
+ghost use Rattle.tf_asked.specs.Asking.{requested};
+ghost use Rattle.tf_asked.specs.declared.options.Work.TheVariants.{Rate as RatesBy};
 ghost use Rattle.tf_command.specs.Ending.{EndsRating, SaysLine};
 ghost use Rattle.tf_command.specs.Performing.{IsSourceText, Performs, RatesMeasured, RatesNamed};
 ghost use Rattle.tf_command.specs.Performing.{AreOthers, RatesAided, RatesBeside, RatesOrders};
@@ -21,13 +21,13 @@ use crate::report::{end_rating, report_bound, say_memory};
 use crate::source::Sources;
 use std::alloc::Global;
 use std::io::{Read, Write};
+use tf_asked::aids;
+use tf_asked::options::{Options, OrderSource};
 use tf_assess::bound_read::bound_read;
 use tf_assess::measures::{PosedInstance, posed_in};
 use tf_assess::offered::Aids;
 use tf_evaluate::evaluation::Detail;
 use tf_model::memory::OutOfMemory;
-use tf_options::aids;
-use tf_options::options::{Options, OrderSource};
 use tf_orders::run_orders::{Measuring, OrderForm, OrdersRequest};
 use tf_search::effort::{Effort, Nobody};
 use tf_sequencing::rule::Rule;

@@ -17,7 +17,6 @@ use Rattle.tf_prepare.specs.Preparing.{prepared_in}
 use Rattle.tf_read.specs.WeightedTardiness.{weighted_tardiness}
 use Rattle.tf_text.specs.Counted.{DeviceUse, use_of}
 use Rattle.tf_text.specs.Input.{IsTextOf}
-use Rattle.tf_text.specs.AnswerText.{SheetData}
 use Rattle.tf_text.specs.declared.answer.layout.Layout.{Layout}
 use Rattle.tf_text.specs.declared.answer.layout.Layout.TheVariants.{Two}
 use Rattle.tf_engine.specs.FormData.{FormData, InWt}
@@ -33,15 +32,15 @@ use Rattle.tf_evaluate.specs.RunEvaluating.{IsEvaluationOf}
 use Rattle.tf_assess.specs.RunAssessing.{IsAssessmentOf}
 use Rattle.tf_assess.specs.RunRating.{IsRatingOf, is_solved, rated}
 use Rattle.tf_assess.specs.declared.assessment.Assessed.{Assessed}
-use Rattle.tf_options.specs.Asking.{form_asked, requested}
-use Rattle.tf_options.specs.declared.options.Evaluating.{Evaluating}
-use Rattle.tf_options.specs.declared.options.FormOption.TheVariants.{Wt}
-use Rattle.tf_options.specs.declared.options.Options.{Options}
-use Rattle.tf_options.specs.declared.options.Work.{Work as Asking}
-use Rattle.tf_options.specs.declared.options.Work.TheVariants.{Solve, Bound, Plan, Trace, Check, Evaluate, Assess, Rate, Gantt, Random, Problems, Border, Picture}
-use Rattle.tf_options.specs.declared.series.Series.{Series}
-use Rattle.tf_options.specs.declared.series.Told.{Told}
-use Rattle.tf_options.specs.declared.series.Told.TheVariants as kinds
+use Rattle.tf_asked.specs.Asking.{form_asked, requested}
+use Rattle.tf_asked.specs.declared.options.Evaluating.{Evaluating}
+use Rattle.tf_asked.specs.declared.options.FormOption.TheVariants.{Wt}
+use Rattle.tf_asked.specs.declared.options.Options.{Options}
+use Rattle.tf_asked.specs.declared.options.Work.{Work as Asking}
+use Rattle.tf_asked.specs.declared.options.Work.TheVariants.{Solve, Bound, Plan, Trace, Check, Evaluate, Assess, Rate, Gantt, Random, Problems, Border, Picture}
+use Rattle.tf_asked.specs.declared.series.Series.{Series}
+use Rattle.tf_asked.specs.declared.series.Told.{Told}
+use Rattle.tf_asked.specs.declared.series.Told.TheVariants as kinds
 use Rattle.tf_command.specs.Ending.{EndsSolving, EndsBounding, EndsEvaluating, SaysLine, line_of, status_of_run, status_of_evaluating}
 use Rattle.tf_command.specs.Formatted.{held}
 use Rattle.tf_command.specs.Performing.{EndsOver, EndsOverBoth, Performs}
@@ -261,8 +260,8 @@ module _ (problem : List ℕ) (machines : Option ℕ) (layout : Layout) (jobs : 
 
     solving_has : {A : Type 0} (u : Unit {0}) → IsRunOf {A = A} (asked (InWt jobs k)) reader writer (Ok u)
         → (i : InstanceData) × (weighted_tardiness jobs k text ≡ Ok i)
-    solving_has u r = task_has k text r.outcome.1.solved.task
-        (ap (task_for (asked (InWt jobs k))) (sym (all_is r.text r.is_all)) ∙ r.outcome.1.solved.meant)
+    solving_has u r = task_has k text r.outcome.1.0.task
+        (ap (task_for (asked (InWt jobs k))) (sym (all_is r.text r.is_all)) ∙ r.outcome.1.0.meant)
 
     bounding_has : {A : Type 0} (u : Unit {0}) → IsBoundingOf {A = A} (asked (InWt jobs k)) reader writer (Ok u)
         → (i : InstanceData) × (weighted_tardiness jobs k text ≡ Ok i)

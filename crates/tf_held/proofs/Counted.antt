@@ -2,8 +2,8 @@
 use Rattle.std.proofs.Common.{◌≡◌, ℕ, Bool, List, Some, IfSome, sym, subst}
 use Rattle.tf_text.specs.Counted.{DeviceUse}
 use Rattle.tf_text.specs.Input.{IsTextOf}
-use Rattle.tf_options.specs.declared.options.Options.{Options}
-use Rattle.tf_options.specs.declared.options.Work.{Work as Asking}
+use Rattle.tf_asked.specs.declared.options.Options.{Options}
+use Rattle.tf_asked.specs.declared.options.Work.{Work as Asking}
 use Rattle.tf_command.specs.Performing.{Performs}
 use Rattle.tf_command.specs.Unread.{Texts}
 use Rattle.tf_held.specs.Shops.{EndsShop, IsLineFor, IsUnder, evaluated, texts_with, with_options}

@@ -5,4 +5,4 @@ pub mod Numbered
 pub mod Again
 pub mod Lines
 pub mod Counted
-pub mod Measured
+pub mod Measuring

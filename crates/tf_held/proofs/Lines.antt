@@ -3,7 +3,7 @@ use Rattle.std.proofs.Common.{◌≡◌, ℕ, ◌+◌, ◌-◌, ◌<◌, ◌≤�
 use Rattle.std.specs.Io.KnownBytes.{Appends}
 use Rattle.std.proofs.KnownBytes.{Appends-kept, Appends-nil, Appends-trans}
 use Rattle.std.proofs.lemmas.List.{length-append}
-use Rattle.tf_options.specs.declared.series.Series.{Series}
+use Rattle.tf_asked.specs.declared.series.Series.{Series}
 use Rattle.tf_text.specs.Counted.{DeviceUse, inner_of}
 use Rattle.tf_export.specs.Entry.{entry}
 use Rattle.tf_command.specs.Formatted.{Memory}

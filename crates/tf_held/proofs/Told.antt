@@ -8,8 +8,8 @@ use Rattle.tf_engine.specs.Faults.{Refused, is_refusal, stop_of}
 use Rattle.tf_engine.specs.Parts.{StopsReading}
 use Rattle.tf_engine.specs.declared.fault.RunFault.{RunFault}
 use Rattle.tf_engine.specs.declared.fault.RunFault.TheVariants.{Notation, Text, Task, Cycle, Answer, Pieces, Device, OutOfMemory}
-use Rattle.tf_options.specs.declared.options.Work.{Work as Asking}
-use Rattle.tf_options.specs.declared.series.Series.{Series}
+use Rattle.tf_asked.specs.declared.options.Work.{Work as Asking}
+use Rattle.tf_asked.specs.declared.series.Series.{Series}
 use Rattle.tf_command.specs.Ending.{SaysLine}
 use Rattle.tf_command.specs.Formatted.{Memory, held}
 use Rattle.tf_command.specs.Performing.{Performs}

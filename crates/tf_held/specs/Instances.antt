@@ -4,9 +4,9 @@ use Rattle.std.specs.Str.{bytes_eq}
 use Rattle.tf_words.specs.Words.{words}
 use Rattle.tf_model.specs.InstanceData.{InstanceData}
 use Rattle.tf_read.specs.WeightedTardiness.{weighted_tardiness}
-use Rattle.tf_options.specs.declared.series.Series.{Series}
-use Rattle.tf_options.specs.declared.series.Told.{Told}
-use Rattle.tf_options.specs.declared.series.Told.TheVariants.{Answers}
+use Rattle.tf_asked.specs.declared.series.Series.{Series}
+use Rattle.tf_asked.specs.declared.series.Told.{Told}
+use Rattle.tf_asked.specs.declared.series.Told.TheVariants.{Answers}
 
 -- the text has the instance of this number
 abbrev pub HasInstance : Series → List ℕ → ℕ → Type 0

@@ -8,10 +8,10 @@ use Rattle.tf_engine.specs.RequestData.{RequestData}
 use Rattle.tf_assess.specs.Measures.{AreMeasures, IsPosed, IsUnposed, PosedData, measured_text}
 use Rattle.tf_assess.specs.declared.measures.Measures.{Measures as Values}
 use Rattle.tf_text.specs.declared.answer.layout.Layout.TheVariants.{Two}
-use Rattle.tf_options.specs.Asking.{requested}
-use Rattle.tf_options.specs.declared.options.Options.{Options}
-use Rattle.tf_options.specs.declared.options.Work.{Work as Asking}
-use Rattle.tf_options.specs.declared.options.Work.TheVariants.{Evaluate, Assess}
+use Rattle.tf_asked.specs.Asking.{requested}
+use Rattle.tf_asked.specs.declared.options.Options.{Options}
+use Rattle.tf_asked.specs.declared.options.Work.{Work as Asking}
+use Rattle.tf_asked.specs.declared.options.Work.TheVariants.{Evaluate, Assess}
 use Rattle.tf_command.specs.Ending.{SaysLine}
 use Rattle.tf_command.specs.Formatted.{Memory, held, IsWritten, IsCutOff, IsUnwritten}
 use Rattle.tf_command.specs.Performing.{Performs}

@@ -10,14 +10,14 @@ use Rattle.tf_text.specs.declared.answer.layout.Layout.TheVariants.{Two}
 use Rattle.tf_engine.specs.FormData.{InWt}
 use Rattle.tf_evaluate.specs.declared.evaluation.Detail.TheVariants.{Summary}
 use Rattle.tf_export.specs.Entry.{entry}
-use Rattle.tf_options.specs.Asking.{form_asked}
-use Rattle.tf_options.specs.declared.options.Evaluating.{Evaluating}
-use Rattle.tf_options.specs.declared.options.Options.{Options}
-use Rattle.tf_options.specs.declared.options.Work.{Work as Asking}
-use Rattle.tf_options.specs.declared.options.Work.TheVariants.{Solve, Bound, Evaluate}
-use Rattle.tf_options.specs.declared.series.Series.{Series}
-use Rattle.tf_options.specs.declared.series.Told.{Told}
-use Rattle.tf_options.specs.declared.series.Told.TheVariants.{Values, Bounds, Answers}
+use Rattle.tf_asked.specs.Asking.{form_asked}
+use Rattle.tf_asked.specs.declared.options.Evaluating.{Evaluating}
+use Rattle.tf_asked.specs.declared.options.Options.{Options}
+use Rattle.tf_asked.specs.declared.options.Work.{Work as Asking}
+use Rattle.tf_asked.specs.declared.options.Work.TheVariants.{Solve, Bound, Evaluate}
+use Rattle.tf_asked.specs.declared.series.Series.{Series}
+use Rattle.tf_asked.specs.declared.series.Told.{Told}
+use Rattle.tf_asked.specs.declared.series.Told.TheVariants.{Values, Bounds, Answers}
 use Rattle.tf_command.specs.Ending.{SaysLine}
 use Rattle.tf_command.specs.Formatted.{Memory, held}
 use Rattle.tf_command.specs.Performing.{Performs}

@@ -9,11 +9,11 @@ use Rattle.tf_notation.specs.Reading.{notation}
 use Rattle.tf_read.specs.FlowShop.{flow_shop}
 use Rattle.tf_text.specs.Counted.{DeviceUse}
 use Rattle.tf_text.specs.Input.{IsTextOf}
-use Rattle.tf_options.specs.declared.options.FormOption.{FormOption}
-use Rattle.tf_options.specs.declared.options.FormOption.TheVariants.{Table, Wt, Flow}
-use Rattle.tf_options.specs.declared.options.Options.{Options}
-use Rattle.tf_options.specs.declared.options.Work.{Work as Asking}
-use Rattle.tf_options.specs.declared.options.Work.TheVariants.{Plan, Evaluate, Assess, Rate}
+use Rattle.tf_asked.specs.declared.options.FormOption.{FormOption}
+use Rattle.tf_asked.specs.declared.options.FormOption.TheVariants.{Table, Wt, Flow}
+use Rattle.tf_asked.specs.declared.options.Options.{Options}
+use Rattle.tf_asked.specs.declared.options.Work.{Work as Asking}
+use Rattle.tf_asked.specs.declared.options.Work.TheVariants.{Plan, Evaluate, Assess, Rate}
 use Rattle.tf_command.specs.Performing.{Performs}
 use Rattle.tf_command.specs.Unread.{IsUnread, Texts}
 use Rattle.tf_held.specs.declared.shops.HeldOr.{HeldOr}

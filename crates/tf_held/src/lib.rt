@@ -6,6 +6,7 @@
 mod answers;
 mod held;
 pub mod measured;
+mod misuse;
 pub mod program;
 pub mod series;
 pub mod shops;

@@ -4,8 +4,8 @@ ghost use Rattle.std.specs.Prelude.{string_bytes};
 ghost use Rattle.tf_command.specs.Ending.{SaysLine};
 ghost use Rattle.tf_command.specs.Performing.{Performs};
 ghost use Rattle.tf_notation.specs.Reading.{notation};
-ghost use Rattle.tf_options.specs.Columns.{IsSized};
-ghost use Rattle.tf_options.specs.declared.options.Options.{Options};
+ghost use Rattle.tf_asked.specs.Columns.{IsSized};
+ghost use Rattle.tf_asked.specs.declared.options.Options.{Options};
 ghost use Rattle.tf_text.specs.Counted.{use_of};
 ghost use Rattle.tf_held.specs.Shops.{EndsCounted, IsCountedLine, IsLineFor, IsUncounted, IsUnder};
 ghost use Rattle.tf_held.specs.Shops.{asks_count, evaluated, is_uncounted_in, is_uncounted_shop};
@@ -14,6 +14,7 @@ ghost use Rattle.tf_held.specs.Shops.{texts_with, wants_count, whole_name, with_
 use std::alloc::Global;
 use std::io;
 use std::io::{Read, Write};
+use tf_asked::options::{Assessing, Evaluating, FormOption, Options, Work};
 use tf_command::commands::perform;
 use tf_command::console::Console;
 use tf_command::reading::text_named;
@@ -24,7 +25,6 @@ use tf_model::memory::OutOfMemory;
 use tf_model::problem::Problem;
 use tf_notation::reading::read;
 use tf_notation::writing::notation_text;
-use tf_options::options::{Assessing, Evaluating, FormOption, Options, Work};
 use tf_read::fault::ReadFault;
 use tf_read::flow_shop::read_flowshop;
 

@@ -6,18 +6,18 @@ use Rattle.tf_text.specs.declared.answer.layout.Layout.TheVariants.{One}
 use Rattle.tf_export.specs.declared.csv.Table.TheVariants.{Pieces, Outcomes}
 use Rattle.tf_export.specs.declared.documents.Document.TheVariants.{Answer, Bound, Evaluation, Verdict, Problems, Plan, Border, Orders}
 use Rattle.tf_options.specs.Matched.{layout_by}
-use Rattle.tf_options.specs.declared.format.Format.{Format}
-use Rattle.tf_options.specs.declared.format.Format.TheVariants.{Json, Csv, OrderRows, MeasuredRows, Summary}
+use Rattle.tf_asked.specs.declared.format.Format.{Format}
+use Rattle.tf_asked.specs.declared.format.Format.TheVariants.{Json, Csv, OrderRows, MeasuredRows, Summary}
 use Rattle.tf_options.specs.declared.options.Asked.{Asked}
 use Rattle.tf_options.specs.declared.options.Asked.TheVariants as asking
 use Rattle.tf_options.specs.declared.options.Asked.TheVariants.{Formatted}
-use Rattle.tf_options.specs.declared.options.OrderSource.{OrderSource}
-use Rattle.tf_options.specs.declared.options.OrderSource.TheVariants.{Given, Ruled, Named, Drawn}
-use Rattle.tf_options.specs.declared.options.Options.{Options}
-use Rattle.tf_options.specs.declared.options.Work.{Work}
-use Rattle.tf_options.specs.declared.options.Work.TheVariants as works
-use Rattle.tf_options.specs.declared.aids.Aids.{Aids}
-use Rattle.tf_options.specs.declared.options.Work.TheVariants.{Solve, Trace, Check, Evaluate, Assess, Rate, Gantt, Picture, Random}
+use Rattle.tf_asked.specs.declared.options.OrderSource.{OrderSource}
+use Rattle.tf_asked.specs.declared.options.OrderSource.TheVariants.{Given, Ruled, Named, Drawn}
+use Rattle.tf_asked.specs.declared.options.Options.{Options}
+use Rattle.tf_asked.specs.declared.options.Work.{Work}
+use Rattle.tf_asked.specs.declared.options.Work.TheVariants as works
+use Rattle.tf_asked.specs.declared.aids.Aids.{Aids}
+use Rattle.tf_asked.specs.declared.options.Work.TheVariants.{Solve, Trace, Check, Evaluate, Assess, Rate, Gantt, Picture, Random}
 
 -- the value of each option that has one, by the option's name
 abbrev pub Values : Type 0

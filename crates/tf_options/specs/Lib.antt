@@ -1,6 +1,5 @@
 -- what a caller has to believe
 pub mod OptionNumber
-pub mod Asking
 pub mod Columns
 pub mod Matched
 pub mod Viewing

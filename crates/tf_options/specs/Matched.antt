@@ -16,10 +16,10 @@ use Rattle.tf_evaluate.specs.declared.evaluation.Detail.TheVariants.{Summary, Wi
 use Rattle.tf_listing.specs.declared.listing.Listed.{Listed}
 use Rattle.tf_listing.specs.declared.listing.Listed.TheVariants.{Solved, Bounded}
 use Rattle.tf_options.specs.OptionNumber.{numeral_in}
-use Rattle.tf_options.specs.declared.options.FormOption.{FormOption}
-use Rattle.tf_options.specs.declared.options.FormOption.TheVariants.{Table, Wt, Flow}
-use Rattle.tf_options.specs.declared.options.Idle.{Idle}
-use Rattle.tf_options.specs.declared.options.Options.{Options}
+use Rattle.tf_asked.specs.declared.options.FormOption.{FormOption}
+use Rattle.tf_asked.specs.declared.options.FormOption.TheVariants.{Table, Wt, Flow}
+use Rattle.tf_asked.specs.declared.options.Idle.{Idle}
+use Rattle.tf_asked.specs.declared.options.Options.{Options}
 use Rattle.tf_options.specs.declared.wrong.Wrong.{Wrong}
 use Rattle.tf_options.specs.declared.wrong.Wrong.TheVariants.{Unfit, Missing}
 

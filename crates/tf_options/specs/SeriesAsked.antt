@@ -8,10 +8,10 @@ use Rattle.tf_options.specs.OptionNumber.{numeral_in}
 use Rattle.tf_options.specs.Matched.{Given, IsNumberBy, explains_by, first_fault, is_word, lacks, machines_fault, most_steps, number_by, steps_fault, unless_some}
 use Rattle.tf_options.specs.declared.options.Asked.{Asked}
 use Rattle.tf_options.specs.declared.options.Asked.TheVariants as asking
-use Rattle.tf_options.specs.declared.series.Series.{Series}
-use Rattle.tf_options.specs.declared.series.Span.{Span}
-use Rattle.tf_options.specs.declared.series.Told.{Told}
-use Rattle.tf_options.specs.declared.series.Told.TheVariants.{Values, Bounds, Answers}
+use Rattle.tf_asked.specs.declared.series.Series.{Series}
+use Rattle.tf_asked.specs.declared.series.Span.{Span}
+use Rattle.tf_asked.specs.declared.series.Told.{Told}
+use Rattle.tf_asked.specs.declared.series.Told.TheVariants.{Values, Bounds, Answers}
 
 -- ---- the instances
 

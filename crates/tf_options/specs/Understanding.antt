@@ -8,7 +8,7 @@ use Rattle.tf_options.specs.FormatAsked.{IsFormatBy, asked_in_format}
 use Rattle.tf_options.specs.Matched.{Given, IsFlagBy, given_of}
 use Rattle.tf_options.specs.SeriesAsked.{IsSeriesAsked, span_for}
 use Rattle.tf_options.specs.Understood.{IsAskedBy}
-use Rattle.tf_options.specs.declared.format.Format.{Format}
+use Rattle.tf_asked.specs.declared.format.Format.{Format}
 use Rattle.tf_options.specs.declared.options.Asked.{Asked}
 use Rattle.tf_options.specs.declared.options.Asked.TheVariants as asking
 

@@ -8,13 +8,13 @@ use Rattle.tf_sequencing.specs.declared.rule.Rule.TheVariants.{Edd, Spt, Lpt, Ws
 use Rattle.tf_options.specs.Matched.{Given, AreOptionsBy, IsFlagBy, IsNumberBy, explains_by, first_fault, has_arithmetic, is_latex, is_word, lacks, lists_bounded, machines_fault, most_steps, number_by, options_fault, steps_fault, unless_some}
 use Rattle.tf_options.specs.Viewing.{IsDrawingBy, IsPicturingBy, gantt_fault}
 use Rattle.tf_options.specs.FormatAsked.{IsSolvedLayoutBy}
-use Rattle.tf_options.specs.declared.aids.Aids.{Aids}
+use Rattle.tf_asked.specs.declared.aids.Aids.{Aids}
 use Rattle.tf_options.specs.declared.options.Asked.{Asked}
 use Rattle.tf_options.specs.declared.options.Asked.TheVariants.{Work, Unfit, NoMemory}
-use Rattle.tf_options.specs.declared.options.OrderSource.{OrderSource}
-use Rattle.tf_options.specs.declared.options.OrderSource.TheVariants.{Given as Written, Ruled, Named, Drawn}
-use Rattle.tf_options.specs.declared.options.Work.{Work as Asking}
-use Rattle.tf_options.specs.declared.options.Work.TheVariants.{Solve, Bound, Plan, Trace, Check, Evaluate, Assess, Rate, Gantt, Random, Problems, Border, Picture}
+use Rattle.tf_asked.specs.declared.options.OrderSource.{OrderSource}
+use Rattle.tf_asked.specs.declared.options.OrderSource.TheVariants.{Given as Written, Ruled, Named, Drawn}
+use Rattle.tf_asked.specs.declared.options.Work.{Work as Asking}
+use Rattle.tf_asked.specs.declared.options.Work.TheVariants.{Solve, Bound, Plan, Trace, Check, Evaluate, Assess, Rate, Gantt, Random, Problems, Border, Picture}
 
 -- the rule of a name
 abbrev pub rule_by : List ℕ → Rule

@@ -8,9 +8,9 @@ use Rattle.tf_picture.specs.declared.view.View.{View}
 use Rattle.tf_text.specs.Chart.{most_columns}
 use Rattle.tf_options.specs.Matched.{AreIdleBy, Given, IsFlagBy, IsFormBy, columns_fault, explains_by, first_fault, form_fault, is_word, number_by, unless_some}
 use Rattle.tf_options.specs.OptionNumber.{numeral_in}
-use Rattle.tf_options.specs.declared.options.Drawing.{Drawing}
-use Rattle.tf_options.specs.declared.options.Drawing.TheVariants.{Chart, Picture}
-use Rattle.tf_options.specs.declared.options.Picturing.{Picturing}
+use Rattle.tf_asked.specs.declared.options.Drawing.{Drawing}
+use Rattle.tf_asked.specs.declared.options.Drawing.TheVariants.{Chart, Picture}
+use Rattle.tf_asked.specs.declared.options.Picturing.{Picturing}
 
 -- the most pixels of a side
 abbrev pub most_side : ℕ

@@ -4,18 +4,11 @@ ghost use Rattle.tf_options.specs.Matched.{IsToldInstead, given_of};
 ghost use Rattle.tf_options.specs.Understood.{AreAidsBy, IsOrderBy, aids_fault, input_fault};
 ghost use Rattle.tf_options.specs.Understood.{is_standard_input, rating_fault};
 
-use crate::options::{OrderSource, steps_in};
+use crate::options::steps_in;
 use crate::wrong::Wrong;
 use clap::ArgMatches;
-
-/// What an answer, orders or pieces are evaluated by.
-#[derive(Clone, Copy, Debug)]
-pub struct Aids<'a> {
-    /// The name of the text of a bound.
-    pub bound: Option<&'a str>,
-    /// The steps of the search for prices.
-    pub steps: Option<u32>,
-}
+use tf_asked::aids::Aids;
+use tf_asked::options::OrderSource;
 
 // The fault of a text of orders or pieces that is standard input, where the instance is that too.
 fn input_fault(orders: &OrderSource<'_>) -> Option<&'static str>

@@ -1,12 +1,14 @@
 //! Work whose output is written in a format.
 ghost use Rattle.std.specs.Prelude.{◌≡◌};
-ghost use Rattle.tf_options.specs.Columns.{HasColumns, IsSized};
+ghost use Rattle.tf_asked.specs.Columns.{IsSized};
+ghost use Rattle.tf_options.specs.Columns.{HasColumns};
 ghost use Rattle.tf_options.specs.FormatAsked.{border_format, orders_format, source_in_format};
 ghost use Rattle.tf_options.specs.FormatAsked.{work_in_format};
 
-use crate::aids::Aids;
-use crate::format::Format;
-use crate::options::{Asked, Options, OrderSource, Work};
+use crate::options::Asked;
+use tf_asked::aids::Aids;
+use tf_asked::format::Format;
+use tf_asked::options::{Options, OrderSource, Work};
 use tf_export::documents::Document;
 
 /// Work with its output in this format: a list of orders with the numbers of their lines, from which

@@ -4,7 +4,6 @@
 
 pub mod aids;
 pub mod command_line;
-pub mod format;
 mod formatting;
 pub mod options;
 pub mod series;

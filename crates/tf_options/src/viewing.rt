@@ -1,7 +1,7 @@
 //! What a drawing is asked to show.
 ghost use Rattle.std.specs.Prelude.{◌≡◌, None, Some, false, codes, IfOk, IfErr};
 ghost use Rattle.tf_model.specs.Limit.{limit};
-ghost use Rattle.tf_options.specs.Columns.{HasWidth, IsSized};
+ghost use Rattle.tf_asked.specs.Columns.{HasWidth, IsSized};
 ghost use Rattle.tf_options.specs.Matched.{IsToldInstead, given_of, lacks, number_by};
 ghost use Rattle.tf_options.specs.OptionNumber.{numeral_in};
 ghost use Rattle.tf_options.specs.Understood.{IsWorkBy, lacks_drawing};
@@ -9,11 +9,10 @@ ghost use Rattle.tf_options.specs.Viewing.{IsDrawingBy, IsPicturingBy, IsViewBy,
 ghost use Rattle.tf_options.specs.Viewing.{gantt_fault, most_side, number_fault, page_by, picturing_fault};
 ghost use Rattle.tf_options.specs.Viewing.{sides_fault, size_by, view_fault};
 
-use crate::options::{
-    Drawing, Picturing, Telling, Work, form_in, idle_in, is_explained, number_within,
-};
+use crate::options::{form_in, idle_in, is_explained, number_within};
 use crate::wrong::Wrong;
 use clap::ArgMatches;
+use tf_asked::options::{Drawing, Picturing, Telling, Work};
 use tf_model::limit::LIMIT;
 use tf_picture::view::{Size, View};
 use tf_text::chart::MOST_COLUMNS;

@@ -6,7 +6,7 @@ use Rattle.tf_evaluate.specs.declared.evaluation.Detail.{Detail}
 use Rattle.tf_evaluate.specs.declared.evaluation.Detail.TheVariants.{Summary, WithArithmetic}
 use Rattle.tf_engine.specs.FormData.{FormData, InTable, InWt, InFlow}
 use Rattle.tf_engine.specs.RequestData.{RequestData}
-use Rattle.tf_options.specs.Asking.{requested}
+use Rattle.tf_asked.specs.Asking.{requested}
 use Rattle.tf_reply.specs.declared.asking.Asking.{Asking}
 use Rattle.tf_reply.specs.declared.asking.Asked.{Asked}
 

@@ -3,7 +3,7 @@
 use Rattle.std.specs.Prelude.{ℕ, List}
 use Rattle.tf_text.specs.declared.answer.layout.Layout.TheVariants.{Two}
 use Rattle.tf_picture.specs.Strips.{whole}
-use Rattle.tf_options.specs.declared.options.Drawing.TheVariants.{Chart, Picture}
+use Rattle.tf_asked.specs.declared.options.Drawing.TheVariants.{Chart, Picture}
 use Rattle.tf_command.specs.Ending.{EndsSolving, EndsBounding, EndsChecking, EndsEvaluating, EndsDrawing}
 use Rattle.tf_command.specs.Planning.{EndsPlanning}
 use Rattle.tf_reply.specs.declared.asking.Asking.{Asking}

@@ -1,7 +1,7 @@
 //! What a caller asks for, in numbers and bytes.
 ghost use Rattle.std.specs.Prelude.{◌≡◌, ◌+◌, ◌<◌, ◌≤◌, length, IfOk, IfSome, IfNone, OkIff, OnErr};
 ghost use Rattle.std.specs.Prelude.{OnOk, OnSome};
-ghost use Rattle.tf_options.specs.Asking.{form_asked, requested};
+ghost use Rattle.tf_asked.specs.Asking.{form_asked, requested};
 ghost use Rattle.tf_engine.specs.FormData.{InWt, InFlow};
 ghost use Rattle.tf_model.specs.Limit.{most_machines};
 ghost use Rattle.tf_reply.specs.Asked.{IsAsked, flagged, pair_said, form_said, request_said};
@@ -10,9 +10,9 @@ ghost use Rattle.tf_reply.specs.Asked.{layout_said, detail_said};
 ghost use Rattle.tf_reply.specs.WellFormed.{HasAllowedColumns, HasAllowedSteps, IsAllowed};
 ghost use Rattle.tf_reply.specs.WellFormed.{IsAllowedForm, IsWellFormed, IsWithin};
 
+use tf_asked::options::{FormOption, MOST_STEPS, Options, Telling};
 use tf_evaluate::evaluation::Detail;
 use tf_model::limit::{MOST_JOBS, MOST_MACHINES};
-use tf_options::options::{FormOption, MOST_STEPS, Options, Telling};
 use tf_text::answer::layout::Layout;
 use tf_text::chart::MOST_COLUMNS;
 

@@ -1,8 +1,8 @@
 //! The commands, over texts in memory.
 ghost use Rattle.std.specs.Prelude.{◌≡◌, ◌++◌, IfOk, string_bytes};
 ghost use Rattle.tf_text.specs.Counted.{inner_of};
-ghost use Rattle.tf_options.specs.Asking.{requested};
-ghost use Rattle.tf_options.specs.Columns.{HasWidth};
+ghost use Rattle.tf_asked.specs.Asking.{requested};
+ghost use Rattle.tf_asked.specs.Columns.{HasWidth};
 ghost use Rattle.tf_command.specs.Ending.{EndsSolving, EndsBounding, EndsChecking, EndsEvaluating};
 ghost use Rattle.tf_command.specs.Ending.{EndsDrawing};
 ghost use Rattle.tf_command.specs.Planning.{EndsPlanning};
@@ -14,6 +14,7 @@ use crate::asking::{Asked, Asking};
 use crate::reply::{Console, Reply, misused};
 use crate::reserve::Reserve;
 use std::alloc::{AllocError, Allocator};
+use tf_asked::options::{Drawing, Options};
 use tf_assess::run_rate::{RatingRequest, run_rate};
 use tf_bounding::run_bound::run_bound;
 use tf_command::commands::draw;
@@ -25,7 +26,6 @@ use tf_engine::run_solve::run_solve;
 use tf_evaluate::evaluation::Detail;
 use tf_listing::listing::{Listed, listing};
 use tf_model::instance::Instance;
-use tf_options::options::{Drawing, Options};
 use tf_picture::view::View;
 use tf_search::effort::{Effort, Nobody};
 use tf_text::answer::layout::Layout;

@@ -1,4 +1,6 @@
-use Rattle.std.proofs.Common.{inr}
+use Rattle.std.proofs.Common.{inl, inr}
+use Rattle.std.proofs.KnownBytes.{Keeps-refl}
+use Rattle.tf_command.proofs.Saying.{says_alone}
 use Rattle.tf_command.proofs.commands.assess.Goals as goal
 
 pub returns-in-Ok : goal.returns-in-Ok
@@ -8,4 +10,15 @@ returns-in-Ok g c = inr (record {
   sheet = c.in-Ok.sheet;
   offered = c.in-Ok.ensures.read.given;
   assessed = c.assess_offered.ensures;
+})
+
+pub returns-in-Err : goal.returns-in-Err
+returns-in-Err g c = inl (record {
+  text = c.in-Err.ensures.read.text;
+  is_all = c.in-Err.ensures.read.is_all;
+  fault = c.in-Err.fault;
+  unread = c.in-Err.ensures.read.given;
+  unwritten = Keeps-refl _;
+  ends = c.report_bound.ensures.status;
+  said = says_alone c.report_bound.ensures.line;
 })

@@ -1,13 +1,16 @@
-use Rattle.std.proofs.Common.{List, ℕ, Bor, Some, ap, inl, subst, ◌∙◌}
+use Rattle.std.proofs.Common.{List, ℕ, Bor, Some, ap, inl, inr, subst, codes, ◌≡◌, ◌∙◌}
 use Rattle.std.specs.declared.alloc.Global.{Global}
-use Rattle.tf_text.specs.Counted.{use_of}
+use Rattle.tf_text.specs.Counted.{inner_of, use_of}
 use Rattle.tf_text.specs.declared.answer.layout.Layout.TheVariants.{Two}
-use Rattle.tf_options.specs.Asking.{requested}
+use Rattle.tf_asked.specs.Asking.{requested}
 use Rattle.tf_orders.specs.declared.run_orders.OrderForm.{OrderForm}
 use Rattle.tf_command.specs.Ending.{EndsRating, SaysLine}
 use Rattle.tf_command.specs.Performing.{AreOthers, EndsMeasuring}
 use Rattle.tf_command.specs.Recorded.{bytes_left}
 use Rattle.tf_command.specs.declared.recorded.Recorded.{Recorded}
+use Rattle.std.specs.Io.KnownBytes.{Keeps}
+use Rattle.std.proofs.KnownBytes.{Keeps-refl}
+use Rattle.tf_command.proofs.Saying.{says_alone}
 use Rattle.tf_command.proofs.rating.rate_measured.Goals as goal
 
 pub returns : goal.returns
@@ -48,3 +51,14 @@ returns g c =
           ∙ ap Some c.as_slice-2.ensures.value;
       done = done;
     }))
+
+pub returns-in_default : goal.returns-in_default
+returns-in_default g c =
+    let options = c.args.options.now in
+    inr (inr (subst (λ console. (c.say_memory.result ≡ 3)
+    × Keeps (g.W.Write.contents (inner_of console.writer))
+    (g.W.Write.contents (inner_of c.source_text.new.console.writer))
+    × SaysLine g.E.Write.contents options.telling.explain console.errors c.say_memory.new.writer
+    (codes "threefield: want of memory\n"))
+    (c.in-Ok-source_text.ensures.kept ∙ c.in-Ok.ensures.kept)
+    (c.say_memory.ensures.status, Keeps-refl _, says_alone c.say_memory.ensures.line)))

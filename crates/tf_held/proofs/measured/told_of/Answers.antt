@@ -1,7 +1,7 @@
 use Rattle.std.proofs.Common.{List, ℕ, sym, subst}
 use Rattle.std.proofs.lemmas.Result.{IfOk-weaker}
 use Rattle.tf_held.specs.Shops.{IsLineFor}
-use Rattle.tf_held.proofs.Measured.{over_read}
+use Rattle.tf_held.proofs.Measuring.{over_read}
 use Rattle.tf_held.proofs.measured.told_of.Goals as goal
 
 pub returns : goal.returns

@@ -1,11 +1,11 @@
-use Rattle.std.proofs.Common.{List, ℕ, sym, ap, ◌∙◌, subst}
+use Rattle.std.proofs.Common.{sym, ap, ◌∙◌, subst}
 use Rattle.tf_text.specs.Counted.{use_of}
-use Rattle.tf_options.specs.declared.options.Work.{Work as Asking}
+use Rattle.tf_asked.specs.declared.options.Work.{Work as Asking}
 use Rattle.tf_command.specs.Ending.{SaysLine}
 use Rattle.tf_command.specs.Formatted.{held}
 use Rattle.tf_command.specs.Performing.{Performs}
 use Rattle.tf_text.specs.declared.answer.layout.Layout.TheVariants.{Two}
-use Rattle.tf_options.specs.Asking.{requested}
+use Rattle.tf_asked.specs.Asking.{requested}
 use Rattle.tf_held.specs.Measured.{IsMeasured, options_of}
 use Rattle.tf_held.proofs.measured.told_over.Goals as goal
 

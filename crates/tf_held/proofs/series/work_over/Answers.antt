@@ -1,7 +1,7 @@
 use Rattle.std.proofs.Common.{refl}
 use Rattle.tf_text.specs.declared.answer.layout.Layout.TheVariants.{Two}
 use Rattle.tf_evaluate.specs.declared.evaluation.Detail.TheVariants.{Summary}
-use Rattle.tf_options.specs.declared.options.Work.TheVariants.{Solve, Bound, Evaluate}
+use Rattle.tf_asked.specs.declared.options.Work.TheVariants.{Solve, Bound, Evaluate}
 use Rattle.tf_held.proofs.series.work_over.Goals as goal
 
 pub returns-in-Values : goal.returns-in-Values

@@ -1,6 +1,8 @@
-use Rattle.std.proofs.Common.{None, MatchResult}
+use Rattle.std.proofs.Common.{None, MatchResult, ℤ, rules, refl, sym, subst, SFits, w64, to_z, of_z}
+use Rattle.std.proofs.lemmas.Int.{to_z-of_z}
 use Rattle.tf_engine.specs.Faults.{stop_of}
 use Rattle.tf_engine.proofs.Unread.{err_is}
+use Rattle.tf_evaluate.specs.Evaluating.{IsOptimum}
 use Rattle.tf_orders.specs.OrderParts.{IsUnmeasured, Measures}
 use Rattle.tf_orders.proofs.measure.measured.Goals as goal
 
@@ -11,3 +13,15 @@ returns-in_err-check_feasible-in-Unsolved g c =
     c.in_err-check_feasible-in-Unsolved.field-0.0 _
     c.from_residual-in_err-check_feasible-in-Unsolved.ensures.1
     (rw c.in-Unsolved.is c.in_err-check_feasible-in-Unsolved.ensures)
+
+pub returns-in_ok-best-in-Solved : goal.returns-in_ok-best-in-Solved
+returns-in_ok-best-in-Solved g c =
+    let found = c.in_ok-best-in-Solved.field-0 in
+    let fits : SFits w64 found.best = search rules in
+    rw c.in-Solved.is (
+      to_z w64 (of_z w64 found.best),
+      found.steps,
+      refl,
+      subst (λ (z : ℤ). IsOptimum c.args.detail c.in-Solved.asked.task z found.steps.items)
+          (sym (to_z-of_z w64 found.best fits)) c.in_ok-best-in-Solved.ensures.shown,
+    )

@@ -3,7 +3,7 @@ use Rattle.tf_text.specs.Counted.{use_of}
 use Rattle.tf_text.specs.declared.answer.layout.Layout.TheVariants.{Two}
 use Rattle.tf_engine.specs.RequestData.{RequestData}
 use Rattle.tf_assess.specs.RunRating.{IsRatingOf}
-use Rattle.tf_options.specs.Asking.{requested}
+use Rattle.tf_asked.specs.Asking.{requested}
 use Rattle.tf_command.specs.Ending.{EndsEvaluating, line_of}
 use Rattle.tf_reply.proofs.Over.{held, left, over_both}
 use Rattle.tf_reply.proofs.commands.evaluated.Goals as goal

@@ -1,10 +1,10 @@
--- What a run is asked for by a command line.
+-- What a run is asked for.
 use Rattle.tf_text.specs.declared.answer.layout.Layout.{Layout}
 use Rattle.tf_engine.specs.FormData.{FormData, InTable, InWt, InFlow}
 use Rattle.tf_engine.specs.RequestData.{RequestData}
-use Rattle.tf_options.specs.declared.options.FormOption.{FormOption}
-use Rattle.tf_options.specs.declared.options.FormOption.TheVariants.{Table, Wt, Flow}
-use Rattle.tf_options.specs.declared.options.Options.{Options}
+use Rattle.tf_asked.specs.declared.options.FormOption.{FormOption}
+use Rattle.tf_asked.specs.declared.options.FormOption.TheVariants.{Table, Wt, Flow}
+use Rattle.tf_asked.specs.declared.options.Options.{Options}
 
 -- the form of the instance, as `--format` and the options of that form say it
 abbrev pub form_asked : FormOption → FormData

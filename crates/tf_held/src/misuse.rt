@@ -1,11 +1,11 @@
 //! What is said of a command line that is none of the program's.
 ghost use Rattle.std.specs.Prelude.{◌≡◌, ◌⊎◌};
 
-use crate::gathered::send;
-use crate::report::say_memory;
 use std::alloc::{AllocError, Global};
 use std::io::Write;
 use tf_advice::page::escape;
+use tf_command::gathered::send;
+use tf_command::report::say_memory;
 use tf_grammar::grammar::command;
 use tf_options::command_line::understand;
 use tf_options::options::Asked;

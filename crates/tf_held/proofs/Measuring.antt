@@ -1,6 +1,6 @@
 -- Evaluations that tell what their schedules come to by every objective.
 use Rattle.std.proofs.Common.{◌≡◌, ℕ, List, subst}
-use Rattle.tf_options.specs.declared.options.Options.{Options}
+use Rattle.tf_asked.specs.declared.options.Options.{Options}
 use Rattle.tf_command.specs.Unread.{Texts}
 use Rattle.tf_held.specs.declared.measured.Answered.{Answered}
 use Rattle.tf_held.specs.Measured.{MeasuresCounted, MeasuresOver, answer_of, answered_with, options_of, texts_read}

@@ -1,0 +1,3 @@
+-- what a caller has to believe
+pub mod Asking
+pub mod Columns

@@ -1,0 +1,34 @@
+//! What is asked for of several instances of a weighted tardiness file.
+
+/// Instances of a file, counted from 1: from the first to the last, or to the end of the file.
+#[derive(Clone, Copy, Debug, PartialEq, Eq)]
+pub struct Span {
+    pub first: u32,
+    pub last: Option<u32>,
+}
+
+/// What is reported of each instance.
+#[derive(Clone, Copy, Debug)]
+pub enum Told<'a> {
+    /// The minimum cost.
+    Values,
+    /// A lower bound, after so many steps of the search for prices where they are given.
+    Bounds(Option<u32>),
+    /// The cost and the gap of its answer, which the text of this name holds, after so many steps.
+    Answers(&'a str, Option<u32>),
+}
+
+/// Instances of a weighted tardiness file, of each of which a line is told.
+#[derive(Drop)]
+pub struct Series<'a> {
+    pub problem: &'a str,
+    /// The name of the file.
+    pub input: &'a str,
+    pub machines: Option<u32>,
+    /// The number of jobs of each instance.
+    pub jobs: u32,
+    pub span: Span,
+    pub told: Told<'a>,
+    /// Whether what is wrong is said in plain words too.
+    pub explain: bool,
+}
