@@ -1,48 +1,79 @@
--- On a problem of a class the definitions of this crate mean what those of the class mean.
-use Rattle.std.specs.Prelude.{◌≡◌, ℕ, ◌↔◌, [], map, if◌then◌else◌, IsTrue, IsFalse}
+-- Of a task of a class the definitions of this crate mean what those of the class mean.
+use Rattle.std.specs.Prelude.{◌≡◌, ℕ, ◌-◌, ℤ, ◌≤ℤ◌, ◌↔◌, List, [], ◌∷◌, map, slice_index_or, if◌then◌else◌, IsFalse}
 use Rattle.std.specs.List.{range_with_len}
-use Rattle.tf_model.specs.declared.class.Class.{Class}
 use Rattle.tf_model.specs.declared.problem.Env.TheVariants.{Flow, JobShop}
-use Rattle.tf_model.specs.ClassTable.{IsOfClass, is_shop, is_ordered, is_costed}
-use Rattle.tf_model.specs.SchedulingTask.{SchedulingTask, JobData}
-use Rattle.tf_model.specs.Timetable.{Timetable}
+use Rattle.tf_model.specs.declared.problem.Goal.{Goal}
+use Rattle.tf_model.specs.declared.problem.Goal.TheVariants as goals
+use Rattle.tf_model.specs.ClassTable.{notation_of, is_shop, is_costed}
+use Rattle.tf_model.specs.Steps.{Steps, no_steps, step_value}
+use Rattle.tf_model.specs.SchedulingTask.{SchedulingTask, all_jobs, job_data}
+use Rattle.tf_model.specs.Timetable.{Timetable, completion}
 use Rattle.tf_model.specs.Feasible.{Fits}
-use Rattle.tf_model.specs.Cost.{cost}
-use Rattle.tf_problem.specs.ProblemData.{ProblemData, IsProblemSound, IsProblemJob, problem_jobs, problem_job, problem_time_on, problem_weight, problem_release, problem_due}
+use Rattle.tf_model.specs.Cost.{cost, greatest, IsBest}
+use Rattle.tf_model.specs.Sound.{IsSound}
+use Rattle.tf_problem.specs.ProblemData.{ProblemData, ProblemJobData, IsProblemSound, IsProblemJob, problem_jobs, problem_job}
 use Rattle.tf_problem.specs.FitsProblem.{FitsProblem}
-use Rattle.tf_problem.specs.ProblemCost.{problem_cost}
+use Rattle.tf_problem.specs.ProblemCost.{problem_cost, problem_cost_by, IsProblemBest}
 
--- a job of the class's task
-abbrev pub class_job : ProblemData → Class → ℕ → JobData
-class_job k c j =
-    record {
-      first = problem_time_on k j 0;
-      second = if is_shop c then problem_time_on k j 1 else 0;
-      weight = problem_weight k j;
-      release = problem_release k j;
-      due = problem_due k j;
-    }
+-- ---- the task of a class as one of its problem
 
--- the task of the class with the same jobs
-abbrev pub class_task : ProblemData → Class → SchedulingTask
-class_task k c =
-    record {
-      class = c;
-      machines = k.machines;
-      jobs = map (class_job k c) (problem_jobs k);
-      costs = [];
-      arcs = if is_ordered c then k.arcs else [];
-    }
+-- a job with its times: one, or in a shop one for each machine
+abbrev pub posed_job : SchedulingTask → ℕ → ProblemJobData
+posed_job k j = record {
+  times = (job_data k j).first ∷ (if is_shop k.class then (job_data k j).second ∷ [] else []);
+  route = [];
+  weight = (job_data k j).weight;
+  release = (job_data k j).release;
+  due = (job_data k j).due;
+}
 
--- the same timetables fit, and they cost the same
-pub record IsSameTask (k : ProblemData) (task : SchedulingTask) : Type 0 where
-  pub fits : (rows : Timetable) → FitsProblem k rows ↔ Fits task rows
-  pub costs : (rows : Timetable) → cost task rows ≡ problem_cost k rows
+-- the problem is that of the class's notation
+abbrev pub posed : SchedulingTask → ProblemData
+posed k = record {
+  problem = notation_of k.class;
+  machines = k.machines;
+  jobs = map (posed_job k) (all_jobs k);
+  arcs = k.arcs;
+}
 
--- a problem of a class, of which a shop has two machines; the classes of cost functions are left out
-abbrev pub AgreementLaw : Type 0
-AgreementLaw = (k : ProblemData) (c : Class) → IsProblemSound k → IsOfClass k.problem c
-    → (IsTrue (is_shop c) → k.machines ≡ 2) → IsFalse (is_costed c) → IsSameTask k (class_task k c)
+-- ---- cost functions, one of each job, which are beside the task
+
+abbrev pub costed_by : Goal → ProblemData → List Steps → Timetable → ℤ
+costed_by goals.Hmax k costs rows =
+    greatest (λ j. step_value (slice_index_or costs (j - 1) no_steps) (completion rows j))
+    (problem_jobs k)
+costed_by goal k costs rows = problem_cost_by goal k rows
+
+-- for the objective `hmax` the maximum cost by these, and for any other `problem_cost`
+abbrev pub costed_cost : ProblemData → List Steps → Timetable → ℤ
+costed_cost k costs rows = costed_by k.problem.goal k costs rows
+
+-- the timetable fits and costs v, and no timetable that fits costs less
+pub record IsCostedBest (k : ProblemData) (costs : List Steps) (rows : Timetable) (v : ℤ)
+    : Type 0 where
+  pub fits : FitsProblem k rows
+  pub value : costed_cost k costs rows ≡ v
+  pub least : (other : Timetable) → FitsProblem k other → v ≤ℤ costed_cost k costs other
+
+-- ---- the law
+
+-- Without cost functions: the task is one of which the laws of lower bounds speak, the timetables
+-- cost the same, and the same are best.
+pub record IsSamePlain (k : SchedulingTask) : Type 0 where
+  pub sound : IsProblemSound (posed k)
+  pub costs : (rows : Timetable) → cost k rows ≡ problem_cost (posed k) rows
+  pub best : (rows : Timetable) (v : ℤ) → IsBest k rows v ↔ IsProblemBest (posed k) rows v
+
+-- the same timetables fit, they cost the same, and the same are best
+pub record IsSameTask (k : SchedulingTask) : Type 0 where
+  pub fits : (rows : Timetable) → Fits k rows ↔ FitsProblem (posed k) rows
+  pub costs : (rows : Timetable) → cost k rows ≡ costed_cost (posed k) k.costs rows
+  pub best : (rows : Timetable) (v : ℤ) → IsBest k rows v ↔ IsCostedBest (posed k) k.costs rows v
+  pub plain : IsFalse (is_costed k.class) → IsSamePlain k
+
+-- of every task of every class that is prepared
+abbrev pub PosedLaw : Type 0
+PosedLaw = (k : SchedulingTask) → IsSound k → IsSameTask k
 
 -- ---- job shops and flow shops
 

@@ -13,7 +13,7 @@ ghost use Rattle.tf_problem.specs.Parts.{PartsLaw};
 ghost use Rattle.tf_problem.specs.MachinePrices.{MachinePricesLaw};
 ghost use Rattle.tf_problem.specs.Potentials.{PotentialsLaw};
 ghost use Rattle.tf_problem.specs.Split.{SplitLaw};
-ghost use Rattle.tf_problem.specs.Agreement.{AgreementLaw, FlowAgreementLaw};
+ghost use Rattle.tf_problem.specs.Agreement.{FlowAgreementLaw, PosedLaw};
 
 /// A lower bound that a certificate gives of a relaxed task is one of the task.
 pub fn certificate_law()
@@ -152,9 +152,9 @@ pub fn split_law()
     ensures { SplitLaw }
 {}
 
-/// On a problem of a class the task of the problem means what the class's task means.
-pub fn agreement_law()
-    ensures { AgreementLaw }
+/// Of a task of any class the same timetables fit as of its problem, and the same are best.
+pub fn posed_law()
+    ensures { PosedLaw }
 {}
 
 /// A job shop where all jobs visit all machines in the order of their numbers is a flow shop.
