@@ -1,5 +1,5 @@
 -- A task of a class means what the task of its problem means.
-use Rattle.std.proofs.Common.{◌≡◌, Bool, true, false, ℕ, ◌+◌, ◌*◌, ◌≤◌, ◌<◌, List, [], ◌∷◌, length, map, refl, sym, ap, ◌∙◌, subst, arith, sum_by, All, ℤ, pos, ◌-ℤ◌, ◌≤ℤ◌, IsFalse}
+use Rattle.std.proofs.Common.{◌≡◌, Bool, true, false, ℕ, ◌+◌, ◌*◌, ◌≤◌, ◌<◌, Option, List, [], ◌∷◌, length, map, refl, sym, ap, ◌∙◌, subst, arith, sum_by, All, ℤ, pos, ◌-ℤ◌, ◌≤ℤ◌, IsFalse}
 use Rattle.std.specs.Int.{int_max}
 use Rattle.std.specs.List.{fold, range_with_len}
 use Rattle.std.proofs.lemmas.Bool.{false≢true, true≢false}
@@ -9,6 +9,7 @@ use Rattle.tf_model.specs.declared.class.Class.{Class}
 use Rattle.tf_model.specs.declared.class.Class.TheVariants.{WeightedSum}
 use Rattle.tf_model.specs.declared.problem.Goal.{Goal}
 use Rattle.tf_model.specs.declared.problem.Goal.TheVariants as goals
+use Rattle.tf_model.specs.declared.problem.Problem.{Problem}
 use Rattle.tf_model.specs.ClassTable.{notation_of, is_ordered, is_costed, is_dearest, is_weighted_goal, objective_by}
 use Rattle.tf_model.specs.Timetable.{Timetable, completion}
 use Rattle.tf_model.specs.SchedulingTask.{SchedulingTask, all_jobs, IsJob, job_data, costs_of}
@@ -21,7 +22,7 @@ use Rattle.tf_problem.specs.ProblemData.{ProblemData, problem_job, problem_jobs}
 use Rattle.tf_problem.specs.FitsProblem.{FitsProblem}
 use Rattle.tf_problem.specs.ProblemCost.{problem_cost, problem_cost_by, lateness, IsProblemBest}
 use Rattle.tf_problem.specs.Agreement.{posed, costed_by, costed_cost, IsCostedBest, IsSamePlain, IsSameTask, PosedLaw}
-use Rattle.tf_problem.proofs.Conditions.{no_prmu, no_nwt, size, its_job, amount_to, amount_from, whole_to, whole_from, released_to, released_from, route_to, route_from, posed-sound}
+use Rattle.tf_problem.proofs.Conditions.{counted, no_prmu, no_nwt, size, its_job, amount_to, amount_from, whole_to, whole_from, released_to, released_from, route_to, route_from, posed-sound}
 
 -- ---- lists
 
@@ -51,9 +52,9 @@ pub class_goal : (c : Class) → is_class_goal (notation_of c).goal ≡ true
 class_goal WeightedSum = refl
 class_goal _ = refl
 
-module _ (k : SchedulingTask) (sound : IsSound k) where
+module _ (k : SchedulingTask) (sound : IsSound k) (n : Option ℕ) where
   abbrev task : ProblemData
-  task = posed k
+  task = counted k n
 
   jobs_are : problem_jobs task ≡ all_jobs k
   jobs_are = ap (range_with_len 1) (size k)
@@ -78,14 +79,14 @@ module _ (k : SchedulingTask) (sound : IsSound k) where
     width = fits.broken.width;
     jobs_only = subst (λ n. All (λ row. All (λ j. j ≤ n) row) rows) (sym (size k)) fits.broken.jobs_only;
     single_place = λ j low high. fits.broken.single_place j low (of_class high);
-    amount = λ j low high. amount_to k sound rows j (low, of_class high)
+    amount = λ j low high. amount_to k sound n rows j (low, of_class high)
         (fits.broken.amount j low (of_class high));
-    unbroken = λ no j low high. whole_to k sound rows j (low, of_class high)
+    unbroken = λ no j low high. whole_to k sound n rows j (low, of_class high)
         (fits.unbroken no j low (of_class high));
-    released = λ has j low high. released_to k sound rows j (low, of_class high)
+    released = λ has j low high. released_to k sound n rows j (low, of_class high)
         (fits.broken.released j low (of_class high));
     in_order = λ has. fits.broken.in_order;
-    on_route = λ j low high. route_to k sound rows j (low, of_class high)
+    on_route = λ j low high. route_to k sound n rows j (low, of_class high)
         (λ flows. fits.broken.in_flow flows j low (of_class high));
     one_order = λ has. absurd (false≢true (sym (no_prmu k.class) ∙ has));
     without_wait = λ has. absurd (false≢true (sym (no_nwt k.class) ∙ has));
@@ -97,15 +98,15 @@ module _ (k : SchedulingTask) (sound : IsSound k) where
       width = fits.width;
       jobs_only = subst (λ n. All (λ row. All (λ j. j ≤ n) row) rows) (size k) fits.jobs_only;
       single_place = λ j low high. fits.single_place j low (of_problem high);
-      amount = λ j low high. amount_from k sound rows j (low, high)
+      amount = λ j low high. amount_from k sound n rows j (low, high)
           (fits.amount j low (of_problem high));
-      released = λ j low high. released_from k sound rows j (low, high)
+      released = λ j low high. released_from k sound n rows j (low, high)
           (λ has. fits.released has j low (of_problem high));
       in_order = kept (is_ordered k.class) refl;
-      in_flow = λ flows j low high. route_from k sound rows j (low, high)
+      in_flow = λ flows j low high. route_from k sound n rows j (low, high)
           (fits.on_route j low (of_problem high)) flows;
     };
-    unbroken = λ no j low high. whole_from k sound rows j (low, high)
+    unbroken = λ no j low high. whole_from k sound n rows j (low, high)
         (fits.unbroken no j low (of_problem high));
   }
     where
@@ -206,14 +207,14 @@ module _ (k : SchedulingTask) (sound : IsSound k) where
       least = least_from (problem_cost task) (plain_cost plain) v is.least;
     }
 
-    same_plain : IsSamePlain k
+    same_plain : IsSamePlain k task
     same_plain = record {
-      sound = posed-sound k sound plain;
+      sound = posed-sound k sound n plain;
       costs = plain_cost plain;
       best = λ rows v. (plain_to rows v, plain_from rows v);
     }
 
-  same_task : IsSameTask k
+  same_task : IsSameTask k task
   same_task = record {
     fits = λ rows. (fits_problem rows, closed rows);
     costs = same_cost;
@@ -222,4 +223,6 @@ module _ (k : SchedulingTask) (sound : IsSound k) where
   }
 
 pub posed-same : PosedLaw
-posed-same k sound = same_task k sound
+posed-same k p sound is =
+    subst (λ (q : Problem). IsSameTask k (record (posed k) { problem = q }))
+    (sym (ap (λ (q : Problem). record q { count = p.count }) is.notation)) (same_task k sound p.count)

@@ -1,6 +1,6 @@
 -- Each condition of a task of a class is that of its problem, job by job; and where it has no cost
 -- functions, the task of its problem is sound.
-use Rattle.std.proofs.Common.{◌≡◌, Bool, true, false, ℕ, zero, suc, ◌-◌, ◌≤◌, ◌<◌, [], ◌∷◌, length, slice_index, slice_index_or, cond, refl, sym, ap, ◌∙◌, subst, arith, IsTrue, IsFalse}
+use Rattle.std.proofs.Common.{◌≡◌, Bool, true, false, ℕ, zero, suc, ◌-◌, ◌≤◌, ◌<◌, Option, [], ◌∷◌, length, slice_index, slice_index_or, cond, refl, sym, ap, ◌∙◌, subst, arith, IsTrue, IsFalse}
 use Rattle.std.specs.List.{AllPairs, range_with_len}
 use Rattle.std.proofs.lemmas.Bool.{false≢true, true≢false}
 use Rattle.std.proofs.lemmas.List.FromFn.{length-range_with_len, get_or-range_with_len, get_or-map-range_with_len, length-map-range_with_len}
@@ -48,6 +48,10 @@ is_flow_shop : (e : Env) → IsTrue (is_flow_env e) → e ≡ Flow
 is_flow_shop Flow h = refl
 is_flow_shop _ h = absurd (false≢true h)
 
+-- the task of a problem of the class, which may be given a number of machines
+abbrev pub counted : SchedulingTask → Option ℕ → ProblemData
+counted k n = record (posed k) { problem = record (notation_of k.class) { count = n } }
+
 pub size : (k : SchedulingTask) → length (posed k).jobs ≡ length k.jobs
 size k = length-map-range_with_len (posed_job k) 1 (length k.jobs)
 
@@ -56,9 +60,10 @@ its_job k j h =
     get_or-map-range_with_len (posed_job k) 1 (length k.jobs) (j - 1) j no_problem_job
     (omega (arith, h.0, h.1)) (omega (arith, h.0))
 
-module _ (k : SchedulingTask) (sound : IsSound k) (rows : Timetable) (j : ℕ) (h : IsJob k j) where
+module _ (k : SchedulingTask) (sound : IsSound k) (n : Option ℕ) (rows : Timetable) (j : ℕ)
+    (h : IsJob k j) where
   abbrev task : ProblemData
-  task = posed k
+  task = counted k n
 
   one_time : IsFalse (is_shop k.class) → problem_time task j ≡ time_of k j
   one_time plain =
@@ -147,21 +152,22 @@ module _ (k : SchedulingTask) (sound : IsSound k) (rows : Timetable) (j : ℕ) (
 
 -- ---- soundness
 
-module _ (k : SchedulingTask) (sound : IsSound k) (plain : IsFalse (is_costed k.class)) where
-  of_class : {j : ℕ} → IsProblemJob (posed k) j → IsJob k j
+module _ (k : SchedulingTask) (sound : IsSound k) (n : Option ℕ)
+    (plain : IsFalse (is_costed k.class)) where
+  of_class : {j : ℕ} → IsProblemJob (counted k n) j → IsJob k j
   of_class h = (h.0, omega (arith, h.1, size k))
 
-  one : IsFalse (is_shop k.class) → (j : ℕ) → IsProblemJob (posed k) j
-      → (length (problem_job (posed k) j).times ≡ 1) × (1 ≤ problem_time (posed k) j)
+  one : IsFalse (is_shop k.class) → (j : ℕ) → IsProblemJob (counted k n) j
+      → (length (problem_job (counted k n) j).times ≡ 1) × (1 ≤ problem_time (counted k n) j)
   one single j h = (
     ap (λ d. length d.times) (its_job k j (of_class h))
         ∙ ap (λ s. length ((job_data k j).first ∷ cond s ((job_data k j).second ∷ []) [])) single,
-    omega (arith, one_time k sound [] j (of_class h) single, sound.worked single j (of_class h)),
+    omega (arith, one_time k sound n [] j (of_class h) single, sound.worked single j (of_class h)),
   )
 
-  each : IsTrue (is_shop k.class) → (j : ℕ) → IsProblemJob (posed k) j
-      → (length (problem_job (posed k) j).times ≡ k.machines)
-      × (IsTrue (needs_time (notation_of k.class)) → 1 ≤ time_over (posed k) j 0 k.machines)
+  each : IsTrue (is_shop k.class) → (j : ℕ) → IsProblemJob (counted k n) j
+      → (length (problem_job (counted k n) j).times ≡ k.machines)
+      × (IsTrue (needs_time (notation_of k.class)) → 1 ≤ time_over (counted k n) j 0 k.machines)
   each shop j h = (
     ap (λ d. length d.times) (its_job k j (of_class h))
         ∙ ap (λ s. length ((job_data k j).first ∷ cond s ((job_data k j).second ∷ []) [])) shop
@@ -169,7 +175,7 @@ module _ (k : SchedulingTask) (sound : IsSound k) (plain : IsFalse (is_costed k.
     λ needs. absurd (false≢true (sym (no_need k.class shop) ∙ needs)),
   )
 
-  pub posed-sound : IsProblemSound (posed k)
+  pub posed-sound : IsProblemSound (counted k n)
   posed-sound = record {
     covered = covered k.class plain;
     some_job = omega (arith, size k, sound.some_job);

@@ -4,7 +4,8 @@ use Rattle.std.specs.List.{range_with_len}
 use Rattle.tf_model.specs.declared.problem.Env.TheVariants.{Flow, JobShop}
 use Rattle.tf_model.specs.declared.problem.Goal.{Goal}
 use Rattle.tf_model.specs.declared.problem.Goal.TheVariants as goals
-use Rattle.tf_model.specs.ClassTable.{notation_of, is_shop, is_costed}
+use Rattle.tf_model.specs.declared.problem.Problem.{Problem}
+use Rattle.tf_model.specs.ClassTable.{notation_of, IsOfClass, is_shop, is_costed}
 use Rattle.tf_model.specs.Steps.{Steps, no_steps, step_value}
 use Rattle.tf_model.specs.SchedulingTask.{SchedulingTask, all_jobs, job_data}
 use Rattle.tf_model.specs.Timetable.{Timetable, completion}
@@ -57,23 +58,24 @@ pub record IsCostedBest (k : ProblemData) (costs : List Steps) (rows : Timetable
 
 -- ---- the law
 
--- Without cost functions: the task is one of which the laws of lower bounds speak, the timetables
--- cost the same, and the same are best.
-pub record IsSamePlain (k : SchedulingTask) : Type 0 where
-  pub sound : IsProblemSound (posed k)
-  pub costs : (rows : Timetable) → cost k rows ≡ problem_cost (posed k) rows
-  pub best : (rows : Timetable) (v : ℤ) → IsBest k rows v ↔ IsProblemBest (posed k) rows v
+-- Without cost functions: the task of the problem is one of which the laws of lower bounds speak,
+-- the timetables cost the same, and the same are best.
+pub record IsSamePlain (k : SchedulingTask) (other : ProblemData) : Type 0 where
+  pub sound : IsProblemSound other
+  pub costs : (rows : Timetable) → cost k rows ≡ problem_cost other rows
+  pub best : (rows : Timetable) (v : ℤ) → IsBest k rows v ↔ IsProblemBest other rows v
 
 -- the same timetables fit, they cost the same, and the same are best
-pub record IsSameTask (k : SchedulingTask) : Type 0 where
-  pub fits : (rows : Timetable) → Fits k rows ↔ FitsProblem (posed k) rows
-  pub costs : (rows : Timetable) → cost k rows ≡ costed_cost (posed k) k.costs rows
-  pub best : (rows : Timetable) (v : ℤ) → IsBest k rows v ↔ IsCostedBest (posed k) k.costs rows v
-  pub plain : IsFalse (is_costed k.class) → IsSamePlain k
+pub record IsSameTask (k : SchedulingTask) (other : ProblemData) : Type 0 where
+  pub fits : (rows : Timetable) → Fits k rows ↔ FitsProblem other rows
+  pub costs : (rows : Timetable) → cost k rows ≡ costed_cost other k.costs rows
+  pub best : (rows : Timetable) (v : ℤ) → IsBest k rows v ↔ IsCostedBest other k.costs rows v
+  pub plain : IsFalse (is_costed k.class) → IsSamePlain k other
 
--- of every task of every class that is prepared
+-- every task of every class that is prepared, however the problem of the class is written
 abbrev pub PosedLaw : Type 0
-PosedLaw = (k : SchedulingTask) → IsSound k → IsSameTask k
+PosedLaw = (k : SchedulingTask) (p : Problem) → IsSound k → IsOfClass p k.class
+    → IsSameTask k (record (posed k) { problem = p })
 
 -- ---- job shops and flow shops
 
