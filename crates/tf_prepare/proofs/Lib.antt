@@ -1,2 +1,3 @@
 pub mod RouteTimes
 pub mod RoutesOf
+pub mod Alike

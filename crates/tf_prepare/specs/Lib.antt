@@ -1,3 +1,4 @@
 -- what a caller has to believe
 pub mod TimedData
 pub mod Preparing
+pub mod Alike

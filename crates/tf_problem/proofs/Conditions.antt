@@ -26,7 +26,7 @@ pub no_nwt : (c : Class) → (notation_of c).nwt ≡ false
 no_nwt WeightedSum = refl
 no_nwt _ = refl
 
-no_job_shop : (c : Class) → is_job_shop (notation_of c).env ≡ false
+pub no_job_shop : (c : Class) → is_job_shop (notation_of c).env ≡ false
 no_job_shop WeightedSum = refl
 no_job_shop _ = refl
 
@@ -37,7 +37,7 @@ covered PrmpHmax h = absurd (true≢false h)
 covered PrmpPrecHmax h = absurd (true≢false h)
 covered _ h = refl
 
-no_need : (c : Class) → IsTrue (is_shop c) → IsFalse (needs_time (notation_of c))
+pub no_need : (c : Class) → IsTrue (is_shop c) → IsFalse (needs_time (notation_of c))
 no_need FlowTwo h = refl
 no_need OpenTwo h = refl
 no_need PrmpFlowTwo h = refl
