@@ -156,7 +156,8 @@ abbrev three : Bool → Bool → Bool → Option Field
 three a b d = if a then Some Weight else if b then Some Release else if d then Some Due else None
 
 none_of_three : (a b d x : Bool)
-    → cond a (Some Weight) (cond b (Some Release) (cond d (Some Due) (cond x (Some Cost) None))) ≡ None
+    → cond a (Some Weight) (cond b (Some Release) (cond d (Some Due) (cond x (Some Cost) None)))
+    ≡ None
     → three a b d ≡ None
 none_of_three true b d x e = cc
 none_of_three false true d x e = cc
@@ -315,7 +316,8 @@ module _ (p : Problem) (c : Class) (is : IsOfClass p c) (m : ℕ) (i : InstanceD
       ap (λ b. cond b (Err (WrongTimes 1)) (by_count (machines_in p false argument i.machines)))
       (ap is_job_shop env ∙ no_job_shop c)
       ∙ ap by_count (ap (λ e. machines_by true (is_single_env e) (is_shop_env e) p.count argument
-      i.machines) env ∙ machines_same (is_single c) (is_shop c) p.count argument i.machines ∙ counted)
+      i.machines) env
+      ∙ machines_same (is_single c) (is_shop c) p.count argument i.machines ∙ counted)
       ∙ ap (λ o. unless o (Ok (task_in p m (self_timed i)))) no_refusal
       ∙ ap (λ (t : ProblemData). Ok t) task_same
     where

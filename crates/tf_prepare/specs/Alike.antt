@@ -9,7 +9,8 @@ use Rattle.tf_problem.specs.Agreement.{posed}
 use Rattle.tf_prepare.specs.TimedData.{self_timed}
 use Rattle.tf_prepare.specs.Preparing.{prepared_in}
 
--- the problem is of the task's class, and its own task is that task with the problem as it is written
+-- the problem is of the task's class, and its own task is the same, with the problem as it is
+-- written
 pub record IsAlike (i : InstanceData) (p : Problem) (argument : Option ℕ) (task : SchedulingTask)
     : Type 0 where
   pub of_class : IsOfClass p task.class

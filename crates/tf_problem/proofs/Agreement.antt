@@ -32,7 +32,8 @@ map-same f g (x ∷ xs) same =
     ap (λ y. y ∷ map f xs) (All-head (λ y. f y ≡ g y) x xs same)
     ∙ ap (λ ys. g x ∷ ys) (map-same f g xs (All-tail (λ y. f y ≡ g y) x xs same))
 
-greatest-same : (f g : ℕ → ℤ) (xs : List ℕ) → All (λ x. f x ≡ g x) xs → greatest f xs ≡ greatest g xs
+greatest-same : (f g : ℕ → ℤ) (xs : List ℕ) → All (λ x. f x ≡ g x) xs
+    → greatest f xs ≡ greatest g xs
 greatest-same f g [] same = refl
 greatest-same f g (x ∷ xs) same =
     ap (λ ys. fold int_max (f x) ys) (map-same f g (x ∷ xs) same)
@@ -77,7 +78,8 @@ module _ (k : SchedulingTask) (sound : IsSound k) (n : Option ℕ) where
   fits_problem : (rows : Timetable) → Fits k rows → FitsProblem task rows
   fits_problem rows fits = record {
     width = fits.broken.width;
-    jobs_only = subst (λ n. All (λ row. All (λ j. j ≤ n) row) rows) (sym (size k)) fits.broken.jobs_only;
+    jobs_only =
+        subst (λ n. All (λ row. All (λ j. j ≤ n) row) rows) (sym (size k)) fits.broken.jobs_only;
     single_place = λ j low high. fits.broken.single_place j low (of_class high);
     amount = λ j low high. amount_to k sound n rows j (low, of_class high)
         (fits.broken.amount j low (of_class high));
@@ -158,7 +160,8 @@ module _ (k : SchedulingTask) (sound : IsSound k) (n : Option ℕ) where
   same_cost : (rows : Timetable) → cost k rows ≡ costed_cost task k.costs rows
   same_cost rows = sym (cost_at rows (notation_of k.class).goal refl (class_goal k.class))
 
-  plain_cost : IsFalse (is_costed k.class) → (rows : Timetable) → cost k rows ≡ problem_cost task rows
+  plain_cost : IsFalse (is_costed k.class) → (rows : Timetable)
+      → cost k rows ≡ problem_cost task rows
   plain_cost plain rows = same_cost rows ∙ by (notation_of k.class).goal plain
     where
       by : (g : Goal) → IsFalse (is_dearest (objective_by g))
@@ -225,4 +228,5 @@ module _ (k : SchedulingTask) (sound : IsSound k) (n : Option ℕ) where
 pub posed-same : PosedLaw
 posed-same k p sound is =
     subst (λ (q : Problem). IsSameTask k (record (posed k) { problem = q }))
-    (sym (ap (λ (q : Problem). record q { count = p.count }) is.notation)) (same_task k sound p.count)
+    (sym (ap (λ (q : Problem). record q { count = p.count }) is.notation))
+    (same_task k sound p.count)
