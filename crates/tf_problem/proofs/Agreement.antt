@@ -1,10 +1,9 @@
 -- A task of a class means what the task of its problem means.
-use Rattle.std.proofs.Common.{◌≡◌, Bool, true, false, ℕ, ◌+◌, ◌*◌, ◌≤◌, ◌<◌, Option, List, [], ◌∷◌, length, map, refl, sym, ap, ◌∙◌, subst, arith, sum_by, All, ℤ, pos, ◌-ℤ◌, ◌≤ℤ◌, IsFalse}
+use Rattle.std.proofs.Common.{◌≡◌, Bool, true, false, ℕ, ◌*◌, ◌≤◌, Option, List, [], ◌∷◌, length, map, refl, sym, ap, ◌∙◌, subst, arith, sum_by, All, ℤ, pos, ◌-ℤ◌, ◌≤ℤ◌, IsFalse}
 use Rattle.std.specs.Int.{int_max}
 use Rattle.std.specs.List.{fold, range_with_len}
 use Rattle.std.proofs.lemmas.Bool.{false≢true, true≢false}
 use Rattle.std.proofs.lemmas.List.Elements.{All-nil, All-head, All-tail}
-use Rattle.std.proofs.lemmas.List.FromFn.{length-range_with_len, get_or-range_with_len}
 use Rattle.tf_model.specs.declared.class.Class.{Class}
 use Rattle.tf_model.specs.declared.class.Class.TheVariants.{WeightedSum}
 use Rattle.tf_model.specs.declared.problem.Goal.{Goal}
@@ -23,6 +22,7 @@ use Rattle.tf_problem.specs.FitsProblem.{FitsProblem}
 use Rattle.tf_problem.specs.ProblemCost.{problem_cost, problem_cost_by, lateness, IsProblemBest}
 use Rattle.tf_problem.specs.Agreement.{posed, costed_by, costed_cost, IsCostedBest, IsSamePlain, IsSameTask, PosedLaw}
 use Rattle.tf_problem.proofs.Conditions.{counted, no_prmu, no_nwt, size, its_job, amount_to, amount_from, whole_to, whole_from, released_to, released_from, route_to, route_from, posed-sound}
+use Rattle.tf_problem.proofs.Relaxing.{All-problem_jobs}
 
 -- ---- lists
 
@@ -68,10 +68,8 @@ module _ (k : SchedulingTask) (sound : IsSound k) (n : Option ℕ) where
 
   -- what holds of each job holds all along the jobs
   All-jobs : (P : ℕ → Type 0) → ((j : ℕ) → IsJob k j → P j) → All P (all_jobs k)
-  All-jobs P all i d h =
-      let in' : i < length k.jobs = omega (arith, length-range_with_len 1 (length k.jobs)) in
-      subst P (sym (get_or-range_with_len 1 (length k.jobs) i d in'))
-      (all (1 + i) (omega arith, omega arith))
+  All-jobs P all =
+      subst (All P) jobs_are (All-problem_jobs task P (λ j h. all j (h.0, of_class h.1)))
 
   -- ---- fitting
 
