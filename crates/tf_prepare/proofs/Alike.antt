@@ -34,9 +34,11 @@ use Rattle.tf_problem.specs.ProblemData.{ProblemData, ProblemJobData, is_job_sho
 use Rattle.tf_problem.specs.Agreement.{posed, posed_job}
 use Rattle.tf_problem.proofs.Conditions.{no_job_shop, no_need}
 use Rattle.tf_problem.proofs.Agreement.{is_class_goal, class_goal}
+use Rattle.tf_bound.specs.Sized.{IsSized}
 use Rattle.tf_prepare.specs.TimedData.{self_timed}
 use Rattle.tf_prepare.specs.Preparing.{uses_weight, uses_due, machines_in, wrong_times_in, lacking_in, missing_in, times_of, is_idle, idle_in, where_needed, jobs_refusal_in, job_in, jobs_in, task_in, prepared_in}
 use Rattle.tf_prepare.specs.Alike.{IsAlike, AlikeLaw}
+use Rattle.tf_prepare.proofs.PosedSize.{posed-sized}
 
 -- ---- what an objective uses
 
@@ -338,4 +340,11 @@ alike i p argument task is =
     let of : IsOfClass p c =
     (determined p (class_of p) refl c).0 (class_found (class_of p) c NoSolver found) in
     subst (IsAlike i p argument) (ok_same (Ok (task_of c m i)) (task_of c m i) task refl gives)
-    (record { of_class = of; same = alike-at p c of m i refusal argument machines })
+    (record {
+      of_class = of;
+      same = alike-at p c of m i refusal argument machines;
+      sized = λ sound plain.
+          subst (λ (q : Problem). IsSized (record (posed (task_of c m i)) { problem = q }))
+          (sym (ap (λ (q : Problem). record q { count = p.count }) of.notation))
+          (posed-sized (task_of c m i) sound p.count plain);
+    })

@@ -1,3 +1,4 @@
 pub mod RouteTimes
 pub mod RoutesOf
+pub mod PosedSize
 pub mod Alike

@@ -21,8 +21,7 @@ use Rattle.tf_problem.specs.ProblemData.{ProblemData, problem_job, problem_jobs}
 use Rattle.tf_problem.specs.FitsProblem.{FitsProblem}
 use Rattle.tf_problem.specs.ProblemCost.{problem_cost, problem_cost_by, lateness, IsProblemBest}
 use Rattle.tf_problem.specs.Agreement.{posed, costed_by, costed_cost, IsCostedBest, IsSamePlain, IsSameTask, PosedLaw}
-use Rattle.tf_problem.proofs.Conditions.{counted, no_prmu, no_nwt, size, its_job, amount_to, amount_from, whole_to, whole_from, released_to, released_from, route_to, route_from, posed-sound}
-use Rattle.tf_problem.proofs.Relaxing.{All-problem_jobs}
+use Rattle.tf_problem.proofs.Conditions.{counted, All-all_jobs, no_prmu, no_nwt, size, its_job, amount_to, amount_from, whole_to, whole_from, released_to, released_from, route_to, route_from, posed-sound}
 
 -- ---- lists
 
@@ -65,11 +64,6 @@ module _ (k : SchedulingTask) (sound : IsSound k) (n : Option ℕ) where
 
   of_problem : {j : ℕ} → j ≤ length k.jobs → j ≤ length task.jobs
   of_problem h = omega (arith, size k)
-
-  -- what holds of each job holds all along the jobs
-  All-jobs : (P : ℕ → Type 0) → ((j : ℕ) → IsJob k j → P j) → All P (all_jobs k)
-  All-jobs P all =
-      subst (All P) jobs_are (All-problem_jobs task P (λ j h. all j (h.0, of_class h.1)))
 
   -- ---- fitting
 
@@ -123,7 +117,7 @@ module _ (k : SchedulingTask) (sound : IsSound k) (n : Option ℕ) where
   greatest-by rows f g e same =
       ap (greatest f) jobs_are
       ∙ greatest-same f (λ j. price k j (completion rows j)) (all_jobs k)
-      (All-jobs (λ j. f j ≡ price k j (completion rows j))
+      (All-all_jobs k (λ j. f j ≡ price k j (completion rows j))
       (λ j h. same j h ∙ ap (λ x. price_by (objective_by x) k j (completion rows j)) (sym e)))
 
   sum-by : (rows : Timetable) (f : ℕ → ℕ)
@@ -133,7 +127,7 @@ module _ (k : SchedulingTask) (sound : IsSound k) (n : Option ℕ) where
   sum-by rows f same =
       ap (sum_by f) jobs_are
       ∙ sum_by-same_all f (λ j. (job_data k j).weight * completion rows j) (all_jobs k)
-      (All-jobs (λ j. f j ≡ (job_data k j).weight * completion rows j) same)
+      (All-all_jobs k (λ j. f j ≡ (job_data k j).weight * completion rows j) same)
 
   cost_at : (rows : Timetable) (g : Goal) → (notation_of k.class).goal ≡ g
       → is_class_goal g ≡ true → costed_by g task k.costs rows ≡ cost_by (objective_by g) k rows

@@ -1,6 +1,6 @@
 -- Each condition of a task of a class is that of its problem, job by job; and where it has no cost
 -- functions, the task of its problem is sound.
-use Rattle.std.proofs.Common.{◌≡◌, Bool, true, false, ℕ, zero, suc, ◌-◌, ◌≤◌, ◌<◌, Option, [], ◌∷◌, length, slice_index, slice_index_or, cond, refl, sym, ap, ◌∙◌, subst, arith, IsTrue, IsFalse}
+use Rattle.std.proofs.Common.{◌≡◌, Bool, true, false, ℕ, zero, suc, ◌-◌, ◌≤◌, ◌<◌, Option, [], ◌∷◌, length, slice_index, slice_index_or, cond, refl, sym, ap, ◌∙◌, subst, arith, All, IsTrue, IsFalse}
 use Rattle.std.specs.List.{AllPairs, range_with_len}
 use Rattle.std.proofs.lemmas.Bool.{false≢true, true≢false}
 use Rattle.std.proofs.lemmas.List.FromFn.{length-range_with_len, get_or-range_with_len, get_or-map-range_with_len, length-map-range_with_len}
@@ -10,13 +10,14 @@ use Rattle.tf_model.specs.declared.problem.Env.{Env}
 use Rattle.tf_model.specs.declared.problem.Env.TheVariants.{Flow, JobShop}
 use Rattle.tf_model.specs.ClassTable.{notation_of, is_shop, is_flow, is_flow_env, is_released, is_costed}
 use Rattle.tf_model.specs.Timetable.{Timetable, cell, units}
-use Rattle.tf_model.specs.SchedulingTask.{SchedulingTask, IsJob, job_data, time_on, time_of}
+use Rattle.tf_model.specs.SchedulingTask.{SchedulingTask, all_jobs, IsJob, job_data, time_on, time_of}
 use Rattle.tf_model.specs.Feasible.{HasAmount, IsWhole, IsReleased, IsInFlow}
 use Rattle.tf_model.specs.Sound.{IsSound}
 use Rattle.tf_model.proofs.Classes.{flow_is_shop}
 use Rattle.tf_problem.specs.ProblemData.{is_job_shop, is_covered, needs_time, route_by, ProblemData, IsProblemSound, IsProblemJob, problem_job, problem_time, problem_time_on, time_over, no_problem_job}
 use Rattle.tf_problem.specs.FitsProblem.{HasProblemTime, IsProblemUnbroken, IsProblemReleased, VisitsFirst, IsOnRoute}
 use Rattle.tf_problem.specs.Agreement.{posed, posed_job}
+use Rattle.tf_problem.proofs.Relaxing.{All-problem_jobs}
 
 pub no_prmu : (c : Class) → (notation_of c).prmu ≡ false
 no_prmu WeightedSum = refl
@@ -59,6 +60,13 @@ pub its_job : (k : SchedulingTask) (j : ℕ) → IsJob k j → problem_job (pose
 its_job k j h =
     get_or-map-range_with_len (posed_job k) 1 (length k.jobs) (j - 1) j no_problem_job
     (omega (arith, h.0, h.1)) (omega (arith, h.0))
+
+-- what holds of each job holds all along the jobs
+pub All-all_jobs : (k : SchedulingTask) (P : ℕ → Type 0) → ((j : ℕ) → IsJob k j → P j)
+    → All P (all_jobs k)
+All-all_jobs k P all =
+    subst (All P) (ap (range_with_len 1) (size k))
+    (All-problem_jobs (posed k) P (λ j h. all j (h.0, omega (arith, h.1, size k))))
 
 module _ (k : SchedulingTask) (sound : IsSound k) (n : Option ℕ) (rows : Timetable) (j : ℕ)
     (h : IsJob k j) where
