@@ -5,3 +5,6 @@ pub mod Reading
 mod Running
 mod Written
 mod Measuring
+mod Serving
+mod Alike
+mod Placing

@@ -5,3 +5,5 @@ pub mod AssessmentText
 pub mod Measures
 pub mod RunAssessing
 pub mod RunRating
+-- within the crate
+pub mod Placed

@@ -51,12 +51,17 @@ pub record HasMeasure (timed : TimedData) (problem : Problem) (machines : Option
   pub meant : prepared_in timed (by_goal problem goal) machines ≡ Ok task
   pub fits : IsProblemJudged task pieces (Fits (Some value))
 
--- the instance makes no task by this objective, for a reason that is not want of memory, or the
--- pieces have no cost on it
+-- the instance makes no task by this objective, for a reason that is not want of memory
+abbrev pub IsUnmade : TimedData → Problem → Option ℕ → Goal → Type 0
+IsUnmade timed problem machines goal =
+    (refusal : Refusal)
+    × PreparesIn (Err refusal) (prepared_in timed (by_goal problem goal) machines)
+    × (refusal ≢ OutOfMemory)
+
+-- there is no such task, or the pieces have no cost on it
 abbrev pub HasNoMeasure : TimedData → Problem → Option ℕ → List Piece → Goal → Type 0
 HasNoMeasure timed problem machines pieces goal =
-    ((refusal : Refusal) × PreparesIn (Err refusal) (prepared_in timed (by_goal problem goal) machines)
-    × (refusal ≢ OutOfMemory))
+    IsUnmade timed problem machines goal
     ⊎ ((task : ProblemData) × (prepared_in timed (by_goal problem goal) machines ≡ Ok task)
     × ((fit : ProblemFit) × IsProblemJudged task pieces fit × (value_in (Some fit) ≡ None)))
 

@@ -8,6 +8,7 @@ mod case_read;
 pub mod measures;
 pub mod offered;
 mod outcomes;
+mod placed;
 pub mod run_assess;
 pub mod run_rate;
 pub mod writing;

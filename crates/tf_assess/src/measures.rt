@@ -1,31 +1,29 @@
 //! What a schedule comes to by each objective that its instance has the fields for.
-ghost use Rattle.std.specs.Prelude.{◌≡◌, ◌∷◌, ◌++◌, Ok, Some, true, MatchOption, IfOk, IsErr, OnOk};
+ghost use Rattle.std.specs.Prelude.{◌≡◌, ◌∷◌, ◌++◌, List, Ok, true, MatchOption, IfOk, IfSome};
+ghost use Rattle.std.specs.Prelude.{IsErr, OnOk};
 ghost use Rattle.std.specs.List.{flat_map};
 ghost use Rattle.tf_bounding.specs.ShopTimes.{timed_said};
 ghost use Rattle.tf_engine.specs.Faults.{is_refusal, stop_of};
 ghost use Rattle.tf_engine.specs.FormData.{form_of};
-ghost use Rattle.tf_assess.specs.Assessing.{IsProblemJudged, value_in};
-ghost use Rattle.tf_assess.specs.declared.assessment.ProblemFit.{ProblemFit};
-ghost use Rattle.tf_assess.specs.Measures.{AreMeasures, AreMeasuredBy, HasMeasure, HasNoMeasure};
-ghost use Rattle.tf_assess.specs.Measures.{IsPosed, IsUnposed, by_goal, from_zero};
+ghost use Rattle.tf_schedule.specs.declared.piece.Piece.{Piece as PieceData};
+ghost use Rattle.tf_assess.specs.Measures.{AreMeasures, AreMeasuredBy, IsMeasure};
+ghost use Rattle.tf_assess.specs.Measures.{IsPosed, IsUnposed, from_zero};
+ghost use Rattle.tf_assess.specs.Placed.{IsPlacedOf, IsSorted};
 ghost use Rattle.tf_assess.specs.Measures.{measure_line, measure_lines, measured_text};
 ghost use Rattle.tf_assess.specs.Measures.{measured_words, measure_words, tardiness, value_word};
 
-use crate::assess::judged;
-use crate::assessment::ProblemFit;
+use crate::placed::{Placed, first_placed, placed_by, serves};
 use std::alloc::{Allocator, Global};
 use std::marker::Model;
-use tf_bound::task::ProblemTask;
 use tf_bounding::timed_read::timed_read;
 use tf_engine::fault::RunFault;
 use tf_engine::request::{Form, Request};
 use tf_model::memory::OutOfMemory;
-use tf_model::prepare::Refusal;
 use tf_model::problem::{Env, Goal, Problem};
 use tf_notation::reading::read;
-use tf_prepare::prepare::prepare_problem;
 use tf_prepare::timed::TimedInstance;
 use tf_schedule::piece::Piece;
+use tf_schedule::schedule::{PieceFault, Schedule};
 use tf_text::answer::writing::{push_number, push_number_line};
 use tf_text::counted::Counted;
 
@@ -35,9 +33,9 @@ const END: &[u8] = b"end\n";
 /// An instance, and how a problem reads it.
 #[derive(Drop)]
 pub struct PosedInstance<A: Allocator = Global> {
-    timed: TimedInstance<A>,
-    problem: Problem,
-    machines: Option<u32>,
+    pub(crate) timed: TimedInstance<A>,
+    pub(crate) problem: Problem,
+    pub(crate) machines: Option<u32>,
 }
 
 impl<A: Allocator> Model for PosedInstance<A> {
@@ -125,15 +123,17 @@ pub fn measures_of<A: Allocator + Copy, B: Allocator>(
 ) -> Result<Measures, OutOfMemory>
     ensures { IfOk result (AreMeasures posed.now pieces.now) }
 {
+    let schedule = Schedule::new(Vec::from_slice(alloc, pieces)?);
+    let shared = first_placed(alloc, posed, &schedule)?;
     Ok(Measures {
-        makespan: value_by(alloc, posed, pieces, Goal::Cmax)?,
-        lateness: value_by(alloc, posed, pieces, Goal::Lmax)?,
-        completion: value_by(alloc, posed, pieces, Goal::SumC)?,
-        weighted_completion: value_by(alloc, posed, pieces, Goal::SumWC)?,
-        tardiness: value_by(alloc, posed, pieces, Goal::SumT)?,
-        weighted_tardiness: value_by(alloc, posed, pieces, Goal::SumWT)?,
-        late: value_by(alloc, posed, pieces, Goal::SumU)?,
-        weighted_late: value_by(alloc, posed, pieces, Goal::SumWU)?,
+        makespan: value_by(alloc, posed, &schedule, &shared, Goal::Cmax)?,
+        lateness: value_by(alloc, posed, &schedule, &shared, Goal::Lmax)?,
+        completion: value_by(alloc, posed, &schedule, &shared, Goal::SumC)?,
+        weighted_completion: value_by(alloc, posed, &schedule, &shared, Goal::SumWC)?,
+        tardiness: value_by(alloc, posed, &schedule, &shared, Goal::SumT)?,
+        weighted_tardiness: value_by(alloc, posed, &schedule, &shared, Goal::SumWT)?,
+        late: value_by(alloc, posed, &schedule, &shared, Goal::SumU)?,
+        weighted_late: value_by(alloc, posed, &schedule, &shared, Goal::SumWU)?,
     })
 }
 
@@ -151,57 +151,38 @@ pub fn measured_by<A: Allocator + Copy, B: Allocator>(
     }
 }
 
-// The same problem with another objective.
-fn by_goal(problem: &Problem, goal: Goal) -> Problem
-    ensures { result ≡ by_goal problem.now goal }
-{
-    let mut other = *problem;
-    other.goal = goal;
-    other
-}
-
-// What the pieces cost by an objective. None where the instance has not its fields, the schedule
-// does not fit, or the cost is 2^127 or more.
+// What the pieces of a schedule cost by an objective: on the shared task where that has the fields,
+// else on the objective's own.
 fn value_by<A: Allocator + Copy, B: Allocator>(
     alloc: A,
     posed: &PosedInstance<B>,
-    pieces: &[Piece],
+    schedule: &Result<Schedule<A>, PieceFault>,
+    shared: &Option<Placed<A>>,
     goal: Goal,
 ) -> Result<Option<i128>, OutOfMemory>
-    ensures { IfOk result (λ value. MatchOption value
-        (HasNoMeasure posed.now.timed posed.now.problem posed.now.machines pieces.now goal)
-        (HasMeasure posed.now.timed posed.now.problem posed.now.machines pieces.now goal)) }
+    ensures { (ps : List PieceData) → IsSorted ps schedule.now →
+        IfSome shared.now (IsPlacedOf posed.now ps) →
+        IfOk result (IsMeasure posed.now ps goal) }
 {
-    let problem = by_goal(&posed.problem, goal);
-    let task = match prepare_problem(alloc, &posed.timed, &problem, posed.machines) {
-        Ok(task) => task,
-        Err(Refusal::OutOfMemory) => return Err(OutOfMemory),
-        Err(_) => return Ok(None),
-    };
-    cost_on(alloc, &task, pieces)
+    match shared {
+        Some(shared) if serves(shared.goal, goal) => Ok(shared.value(goal)),
+        _ => own_value(alloc, posed, schedule, goal),
+    }
 }
 
-// What the pieces cost on a task, if they fit it.
-fn cost_on<A: Allocator + Copy, B: Allocator>(
+// What they cost on the task that the instance makes by the objective itself.
+fn own_value<A: Allocator + Copy, B: Allocator>(
     alloc: A,
-    task: &ProblemTask<B>,
-    pieces: &[Piece],
+    posed: &PosedInstance<B>,
+    schedule: &Result<Schedule<A>, PieceFault>,
+    goal: Goal,
 ) -> Result<Option<i128>, OutOfMemory>
-    ensures { IfOk result (λ value. (fit : ProblemFit) × IsProblemJudged task.now pieces.now fit
-        × (value_in (Some fit) ≡ value)) }
+    ensures { (ps : List PieceData) → IsSorted ps schedule.now →
+        IfOk result (IsMeasure posed.now ps goal) }
 {
-    let pieces = Vec::from_slice(alloc, pieces)?;
-    let fit = judged(alloc, task, pieces)?;
-    Ok(value_of(&fit))
-}
-
-// What a schedule costs, if it fits.
-fn value_of(fit: &ProblemFit) -> Option<i128>
-    ensures { result ≡ value_in (Some fit.now) }
-{
-    match fit {
-        ProblemFit::Fits(value) => *value,
-        _ => None,
+    match placed_by(alloc, posed, schedule, goal)? {
+        Some(own) => Ok(own.value(goal)),
+        None => Ok(None),
     }
 }
 
