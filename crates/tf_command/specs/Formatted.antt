@@ -1,5 +1,5 @@
 -- Output in the format of another program.
-use Rattle.std.specs.Prelude.{◌≡◌, ◌⊎◌, ℕ, Bool, true, false, List, [], ◌∷◌, Option, Some, codes}
+use Rattle.std.specs.Prelude.{◌≡◌, ◌⊎◌, ℕ, Bool, true, false, List, [], ◌∷◌, Option, None, Some, codes}
 use Rattle.std.specs.declared.alloc.Global.{Global}
 use Rattle.std.specs.declared.vec.Vec.{Vec}
 use Rattle.std.specs.Io.KnownBytes.{Appends, Keeps}
@@ -22,7 +22,7 @@ formatted (Csv table) [] = []
 formatted OrderRows [] = []
 formatted MeasuredRows [] = []
 formatted Summary [] = []
-formatted (Json document) (byte ∷ bytes) = json_of document (byte ∷ bytes)
+formatted (Json document) (byte ∷ bytes) = json_of document None (byte ∷ bytes)
 formatted (Csv table) (byte ∷ bytes) = csv_of table (byte ∷ bytes)
 formatted OrderRows (byte ∷ bytes) = orders_csv false (byte ∷ bytes)
 formatted MeasuredRows (byte ∷ bytes) = orders_csv true (byte ∷ bytes)
@@ -30,7 +30,7 @@ formatted Summary (byte ∷ bytes) = summarized (byte ∷ bytes)
 
 -- what a command said on standard error, in a format, which all but JSON leave as it is
 abbrev pub said_in : Format → List ℕ → List ℕ
-said_in (Json document) text = fault_json text
+said_in (Json document) text = fault_json None text
 said_in (Csv table) text = text
 said_in OrderRows text = text
 said_in MeasuredRows text = text

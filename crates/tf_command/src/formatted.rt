@@ -22,6 +22,9 @@ use tf_text::counted::Counted;
 /// What is said as JSON where there was no memory.
 pub const JSON_MEMORY: &[u8] = b"{\"version\":1,\"fault\":\"want of memory\"}\n";
 
+/// And where standard output failed.
+pub const JSON_DEVICE: &[u8] = b"{\"version\":1,\"fault\":\"device fault\"}\n";
+
 /// Texts in a format: that of standard output, and that of standard error.
 #[derive(Drop)]
 struct Texts {
@@ -37,7 +40,7 @@ fn formatted(alloc: Global, format: Format, text: &[u8]) -> Result<Vec<u8>, OutO
         return Ok(Vec::new(alloc));
     }
     match format {
-        Format::Json(document) => json(alloc, document, text),
+        Format::Json(document) => json(alloc, document, None, text),
         Format::Csv(table) => csv(alloc, table, text),
         Format::OrderRows => orders_csv(alloc, false, text),
         Format::MeasuredRows => orders_csv(alloc, true, text),
@@ -50,7 +53,7 @@ fn said_in(alloc: Global, format: Format, text: &[u8]) -> Result<Vec<u8>, OutOfM
     ensures { IfOk result (λ errors. errors.items ≡ said_in format text.now) }
 {
     match format {
-        Format::Json(_) => fault_json(alloc, text),
+        Format::Json(_) => fault_json(alloc, None, text),
         _ => Ok(Vec::from_slice(alloc, text)?),
     }
 }
@@ -70,7 +73,7 @@ fn device_line(format: Format) -> &'static [u8]
     ensures { result.now ≡ device_line format }
 {
     match format {
-        Format::Json(_) => b"{\"version\":1,\"fault\":\"device fault\"}\n",
+        Format::Json(_) => JSON_DEVICE,
         _ => b"threefield: device fault\n",
     }
 }

@@ -1,5 +1,5 @@
 -- What lines and words say.
-use Rattle.std.proofs.Common.{◌≡◌, ℕ, true, false, eqb, List, [], ◌∷◌, ◌++◌, length, map, drop, codes, refl, sym, ap, ◌∙◌, arith}
+use Rattle.std.proofs.Common.{◌≡◌, ℕ, true, false, eqb, List, [], Option, ◌∷◌, ◌++◌, length, map, drop, codes, refl, sym, ap, ◌∙◌, arith}
 use Rattle.std.specs.List.{flat_map}
 use Rattle.std.specs.Str.{bytes_eq}
 use Rattle.std.proofs.lemmas.Bool.{true≢false}
@@ -8,7 +8,7 @@ use Rattle.tf_words.specs.Words.{words, lines, first_is}
 use Rattle.tf_words.proofs.Lines.{line_none}
 use Rattle.tf_export.specs.Csv.{csv_line, column_names, row_key}
 use Rattle.tf_export.specs.declared.csv.Table.{Table}
-use Rattle.tf_export.specs.Json.{array, scalar, member, object, version}
+use Rattle.tf_export.specs.Json.{array, scalar, member, object, heading}
 use Rattle.tf_export.specs.Members.{arc_members, phrase, fields, rest_members, row_in, rows, verdict_members}
 use Rattle.tf_export.specs.Lines.{first_of}
 use Rattle.tf_export.specs.Documents.{part_in, parts, step_in}
@@ -128,13 +128,13 @@ faulted text line rest row line-is rest-is is row-is =
     row-is ∙ ap (λ (l : List ℕ). drop 1 (words l)) line-is in
     rw (some, words-is, rest-is) refl
 
-pub unsaid : (text : List ℕ) → length text ≡ 0 → fault_json text ≡ []
+pub unsaid : (instance : Option ℕ) (text : List ℕ) → length text ≡ 0 → fault_json instance text ≡ []
 unfolding fault_json
-unsaid [] is = refl
-unsaid (byte ∷ bytes) is = absurd (omega (arith, is))
+unsaid instance [] is = refl
+unsaid instance (byte ∷ bytes) is = absurd (omega (arith, is))
 
-pub is_said : (text : List ℕ) → eqb (length text) 0 ≡ false
-    → fault_json text ≡ object (version ∷ fault_members text) ++ 10 ∷ []
+pub is_said : (instance : Option ℕ) (text : List ℕ) → eqb (length text) 0 ≡ false
+    → fault_json instance text ≡ object (heading instance ++ fault_members text) ++ 10 ∷ []
 unfolding fault_json
-is_said [] is = absurd (true≢false is)
-is_said (byte ∷ bytes) is = refl
+is_said instance [] is = absurd (true≢false is)
+is_said instance (byte ∷ bytes) is = refl

@@ -1,8 +1,8 @@
 -- What the commands print, as JSON.
-use Rattle.std.specs.Prelude.{ℕ, List, [], ◌∷◌, ◌++◌, codes, drop, take, length, map, if◌then◌else◌}
+use Rattle.std.specs.Prelude.{ℕ, List, [], ◌∷◌, ◌++◌, codes, drop, take, length, map, if◌then◌else◌, Option}
 use Rattle.std.specs.List.{flat_map}
 use Rattle.tf_words.specs.Words.{words, lines, first_is}
-use Rattle.tf_export.specs.Json.{array, member, object, version}
+use Rattle.tf_export.specs.Json.{array, member, object, heading}
 use Rattle.tf_export.specs.Lines.{first_of, has_line}
 use Rattle.tf_export.specs.Orders.{order_in}
 use Rattle.tf_export.specs.Tally.{summary_of}
@@ -127,6 +127,8 @@ document_members Border text =
     parts_array (codes "problems") Known (drop 1 (lines text)) ∷ []
 document_members Orders text = orders_members text
 
--- one object, on a line of its own, whose first member is the version
-unfoldable pub json_of : Document → List ℕ → List ℕ
-json_of document text = object (version ∷ document_members document text) ++ 10 ∷ []
+-- one object, on a line of its own, whose first members are the version and, of one of several
+-- instances, its number
+unfoldable pub json_of : Document → Option ℕ → List ℕ → List ℕ
+json_of document instance text =
+    object (heading instance ++ document_members document text) ++ 10 ∷ []

@@ -1,8 +1,8 @@
 -- What is said on standard error, as JSON.
-use Rattle.std.specs.Prelude.{ℕ, ◌+◌, List, [], ◌∷◌, ◌++◌, codes, take, drop, ◌==◌, if◌then◌else◌}
+use Rattle.std.specs.Prelude.{ℕ, ◌+◌, List, [], ◌∷◌, ◌++◌, codes, take, drop, ◌==◌, if◌then◌else◌, Option}
 use Rattle.std.specs.List.{position_or_len}
 use Rattle.tf_words.specs.Words.{words, first_is}
-use Rattle.tf_export.specs.Json.{string, member, object, version}
+use Rattle.tf_export.specs.Json.{string, member, object, heading}
 use Rattle.tf_export.specs.Members.{phrase, fields}
 
 -- the first line of a text, and the text behind its line feed
@@ -47,7 +47,9 @@ fault_members text =
     then fault (drop 1 (words (first_line text))) ++ explanation (behind_line text)
     else explanation text
 
--- one object, on a line of its own, whose first member is the version, unless there is nothing to say
-unfoldable pub fault_json : List ℕ → List ℕ
-fault_json [] = []
-fault_json (byte ∷ bytes) = object (version ∷ fault_members (byte ∷ bytes)) ++ 10 ∷ []
+-- one object, on a line of its own, whose first members are the version and, of one of several
+-- instances, its number, unless there is nothing to say
+unfoldable pub fault_json : Option ℕ → List ℕ → List ℕ
+fault_json instance [] = []
+fault_json instance (byte ∷ bytes) =
+    object (heading instance ++ fault_members (byte ∷ bytes)) ++ 10 ∷ []

@@ -1,5 +1,6 @@
 -- JSON (RFC 8259): strings of ASCII, whole numbers, arrays and objects, without white space.
-use Rattle.std.specs.Prelude.{ℕ, ◌+◌, ◌/◌, ◌%◌, Bool, ◌&&◌, ◌||◌, not, List, [], ◌∷◌, ◌++◌, length, drop, codes, nat_lt, ◌==◌, slice_index, if◌then◌else◌}
+use Rattle.std.specs.Prelude.{ℕ, ◌+◌, ◌/◌, ◌%◌, Bool, ◌&&◌, ◌||◌, not, List, [], ◌∷◌, ◌++◌, Option, None, Some, length, drop, codes, nat_lt, ◌==◌, slice_index, if◌then◌else◌}
+use Rattle.std.specs.Fmt.{decimal}
 use Rattle.std.specs.List.{flat_map, join_with_byte}
 use Rattle.std.specs.Str.{bytes_eq}
 use Rattle.tf_words.specs.Digits.{is_numeral}
@@ -56,3 +57,8 @@ object members = 123 ∷ (join_with_byte 44 members ++ 125 ∷ [])
 -- the first member of each object that a command prints
 abbrev pub version : List ℕ
 version = member (codes "version") (codes "1")
+
+-- the same, and the instance of several that the object is about
+abbrev pub heading : Option ℕ → List (List ℕ)
+heading None = version ∷ []
+heading (Some number) = version ∷ member (codes "instance") (decimal number) ∷ []

@@ -12,7 +12,7 @@ ghost use Rattle.tf_export.specs.Documents.{part_of_plan, parts_object, plan_mem
 ghost use Rattle.tf_export.specs.Documents.{unknown, unknown_member};
 
 use crate::csv::Table;
-use crate::json::{Json, VERSION};
+use crate::json::Json;
 use crate::line::{behind_heading, count_words, first_of, has_line, next_line, row_in};
 use crate::tally::summary_of;
 use std::alloc::Global;
@@ -337,17 +337,23 @@ impl Json {
     }
 }
 
-/// A document, which is the text that a command printed, as one JSON object on a line of its own.
+/// A document, which is the text that a command printed, as one JSON object on a line of its own,
+/// with the number of its instance where it is about one of several.
 ///
 /// # Errors
 ///
 /// There was no memory.
-pub fn json(alloc: Global, document: Document, text: &[u8]) -> Result<Vec<u8>, OutOfMemory>
-    ensures { IfOk result (λ json. json.items ≡ json_of document text.now) }
+pub fn json(
+    alloc: Global,
+    document: Document,
+    instance: Option<u32>,
+    text: &[u8],
+) -> Result<Vec<u8>, OutOfMemory>
+    ensures { IfOk result (λ json. json.items ≡ json_of document instance text.now) }
 {
     let mut json = Json::new(alloc);
     json.enter(b'{')?;
-    json.member(b"version", VERSION)?;
+    json.heading(instance)?;
     json.document_members(alloc, document, text)?;
     json.push(b"}\n")?;
     Ok(json.into_text())

@@ -5,7 +5,7 @@ ghost use Rattle.tf_words.specs.Words.{words};
 ghost use Rattle.tf_export.specs.Faults.{refused, refusal, fault, explanation, fault_members};
 ghost use Rattle.tf_export.specs.Faults.{fault_json};
 
-use crate::json::{Json, VERSION};
+use crate::json::Json;
 use crate::line::next_line;
 use std::alloc::Global;
 use tf_model::memory::OutOfMemory;
@@ -76,21 +76,21 @@ impl Json {
     }
 }
 
-/// What is said of a fault, and an explanation, as one JSON object on a line of its own. Of an
-/// empty text nothing is said.
+/// What is said of a fault, and an explanation, as one JSON object on a line of its own, with the
+/// number of its instance where it is about one of several. Of an empty text nothing is said.
 ///
 /// # Errors
 ///
 /// There was no memory.
-pub fn fault_json(alloc: Global, text: &[u8]) -> Result<Vec<u8>, OutOfMemory>
-    ensures { IfOk result (λ json. json.items ≡ fault_json text.now) }
+pub fn fault_json(alloc: Global, instance: Option<u32>, text: &[u8]) -> Result<Vec<u8>, OutOfMemory>
+    ensures { IfOk result (λ json. json.items ≡ fault_json instance text.now) }
 {
     let mut json = Json::new(alloc);
     if text.is_empty() {
         return Ok(json.into_text());
     }
     json.enter(b'{')?;
-    json.member(b"version", VERSION)?;
+    json.heading(instance)?;
     json.fault_members(alloc, text)?;
     json.push(b"}\n")?;
     Ok(json.into_text())

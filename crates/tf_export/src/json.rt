@@ -1,16 +1,17 @@
 //! An object or an array, of which a part is written.
 ghost use Rattle.std.specs.Prelude.{◌≡◌, ◌∷◌, ◌++◌, [], true, false, map, OnOk, IfOk};
 ghost use Rattle.tf_words.specs.Words.{words};
-ghost use Rattle.tf_export.specs.Json.{string, scalar, array, member, object};
+ghost use Rattle.tf_export.specs.Json.{string, scalar, array, member, object, heading};
 ghost use Rattle.tf_export.specs.Members.{phrase, said, fields, rest_members, record_of};
 
 use crate::value::{push_phrase, push_said, push_scalar, push_string};
+use itoa::Buffer;
 use std::alloc::Global;
 use tf_model::memory::OutOfMemory;
 use tf_words::word::first_word;
 
 /// The version of what is written, the value of the first member of each object.
-pub(crate) const VERSION: &[u8] = b"1";
+const VERSION: &[u8] = b"1";
 
 /// A text, and whether what is added next is the first value or member of its array or object.
 #[derive(Drop)]
@@ -103,6 +104,20 @@ impl Json {
     {
         self.name(name)?;
         self.text.extend_from_slice(value)?;
+        Ok(())
+    }
+
+    /// Adds the members that begin each object: the version, and the number of the instance that it is
+    /// about, where it is about one of several.
+    pub(crate) fn heading(&mut self, instance: Option<u32>) -> Result<(), OutOfMemory>
+        ensures { OnOk result (Adds self.old self.new (heading instance)) }
+    {
+        self.member(b"version", VERSION)?;
+        let Some(number) = instance else {
+            return Ok(());
+        };
+        let mut digits = Buffer::new();
+        self.member(b"instance", digits.format(number).as_bytes())?;
         Ok(())
     }
 

@@ -1,5 +1,5 @@
 use Rattle.std.proofs.Common.{[], ◌∷◌, ◌++◌, ap, ◌∙◌}
-use Rattle.tf_export.specs.Json.{version}
+use Rattle.tf_export.specs.Json.{heading}
 use Rattle.tf_export.specs.Documents.{document_members, json_of}
 use Rattle.tf_export.proofs.Adding.{both, whole}
 use Rattle.tf_export.proofs.documents.json.Goals as goal
@@ -9,8 +9,8 @@ unfolding json_of
 returns c =
     ap (λ v. v.items) c.into_text.ensures
     ∙ whole c.enter.new.self c.document_members.new.self _
-    (version ∷ document_members c.args.document c.args.text.now)
+    (heading c.args.instance ++ document_members c.args.document c.args.text.now)
     (c.in_ok-enter.ensures.text ∙ ap (λ text. text ++ 123 ∷ []) c.new-json.ensures.text)
     c.enter.ensures.first
-    (both c.enter.new.self c.member.new.self c.document_members.new.self (version ∷ []) _
-    c.in_ok-member.ensures c.in_ok-document_members.ensures) c.in_ok-push.ensures
+    (both c.enter.new.self c.heading.new.self c.document_members.new.self (heading c.args.instance) _
+    c.in_ok-heading.ensures c.in_ok-document_members.ensures) c.in_ok-push.ensures
