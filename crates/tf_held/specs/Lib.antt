@@ -8,3 +8,4 @@ pub mod Program
 -- within the crate
 pub mod Cuts
 pub mod Instances
+pub mod Done

@@ -5,11 +5,13 @@ ghost use Rattle.tf_text.specs.Counted.{use_of};
 ghost use Rattle.tf_command.specs.Ending.{SaysLine};
 ghost use Rattle.tf_command.specs.Wrote.{Wrote};
 ghost use Rattle.tf_command.specs.Formatted.{IsWritten, IsCutOff};
-ghost use Rattle.tf_held.specs.Measured.{EndsMeasured, MeasuresCounted, MeasuresOver};
+ghost use Rattle.tf_held.specs.Measured.{EndsMeasured, MeasuresCounted};
+ghost use Rattle.tf_held.specs.Done.{IsDone, IsDoneCounted};
+ghost use Rattle.tf_assess.specs.Measures.{IsPosed, IsUnposed};
 ghost use Rattle.tf_text.specs.AnswerReading.{answer_in};
 ghost use Rattle.tf_text.specs.AnswerText.{SheetData};
 ghost use Rattle.tf_asked.specs.declared.options.Options.{Options};
-ghost use Rattle.tf_held.specs.Measured.{AreOfAnswer, IsMeasured, answer_of, answered_with};
+ghost use Rattle.tf_held.specs.Measured.{AreOfAnswer, answer_of, answered_with};
 ghost use Rattle.tf_held.specs.Measured.{options_of, work_of};
 ghost use Rattle.tf_held.specs.Shops.{IsUnder};
 
@@ -17,7 +19,7 @@ use crate::shops::{WithText, line_for, under};
 use std::alloc::Global;
 use std::io::Write;
 use tf_asked::options::{Assessing, Evaluating, Options, Work};
-use tf_assess::measures::{Measures, measures_of, posed_in, with_measures};
+use tf_assess::measures::{Measures, PosedInstance, measures_of, posed_in, with_measures};
 use tf_check::answer::Answer;
 use tf_command::commands::perform;
 use tf_command::console::Console;
@@ -89,6 +91,15 @@ impl<'a> Answered<'a> {
     }
 }
 
+/// What an evaluation was asked for and wrote, without its measures, and its status.
+#[derive(Drop)]
+struct Done {
+    request: Request,
+    output: Vec<u8>,
+    errors: Vec<u8>,
+    status: u8,
+}
+
 /// What an evaluation wrote, with its measures, and its status.
 #[derive(Drop)]
 struct Told {
@@ -121,7 +132,6 @@ pub(crate) fn perform_measured<S: Sources, W: Write, E: Write>(
         Ok(text) => text,
         Err(status) => return status,
     };
-    let (instance, answer) = (instance.as_slice(), answer.as_slice());
     match told_of(console.alloc, sources, instance, answer, answered) {
         Ok(told) => write_told(console, &told),
         Err(_) => say_memory(&mut console.errors),
@@ -146,17 +156,44 @@ fn write_told<W: Write, E: Write>(console: &mut Console<W, E>, told: &Told) -> u
     }
 }
 
-/// What an evaluation over an instance and an answer in memory writes, with its measures. A shop
-/// whose number of machines is wanted has as many as the instance says.
+/// What an evaluation over an instance and an answer in memory writes, with its measures. Both texts
+/// are given up before the schedule is measured.
 fn told_of<S: Sources>(
+    alloc: Global,
+    sources: &S,
+    instance: Vec<u8>,
+    answer: Vec<u8>,
+    answered: Answered<'_>,
+) -> Result<Told, OutOfMemory>
+    ensures { IfOk result (λ told. MeasuresCounted (S.text_of sources.now) instance.items
+        answer.items answered.entry told.output.items told.errors.items told.status) }
+{
+    let done = done_of(
+        alloc,
+        sources,
+        instance.as_slice(),
+        answer.as_slice(),
+        answered,
+    )?;
+    let measures = answer_measures(alloc, &done.request, instance, answer)?;
+    Ok(Told {
+        output: with_measures(done.output, &measures)?,
+        errors: done.errors,
+        status: done.status,
+    })
+}
+
+/// What an evaluation over an instance and an answer in memory writes. A shop whose number of
+/// machines is wanted has as many as the instance says.
+fn done_of<S: Sources>(
     alloc: Global,
     sources: &S,
     instance: &[u8],
     answer: &[u8],
     answered: Answered<'_>,
-) -> Result<Told, OutOfMemory>
-    ensures { IfOk result (λ told. MeasuresCounted (S.text_of sources.now) instance.now answer.now
-        answered.entry told.output.items told.errors.items told.status) }
+) -> Result<Done, OutOfMemory>
+    ensures { IfOk result (IsDoneCounted (S.text_of sources.now) instance.now answer.now
+        answered.entry) }
 {
     let line = line_for(alloc, answered.options(), instance)?;
     let answers = WithText {
@@ -169,25 +206,16 @@ fn told_of<S: Sources>(
         text: instance,
         others: &answers,
     };
-    told_over(
-        alloc,
-        &texts,
-        instance,
-        answer,
-        answered.under(line.as_str()),
-    )
+    done_over(alloc, &texts, answered.under(line.as_str()))
 }
 
-/// What an evaluation for this problem line writes, with its measures.
-fn told_over<S: Sources>(
+/// What an evaluation for this problem line writes.
+fn done_over<S: Sources>(
     alloc: Global,
     texts: &S,
-    instance: &[u8],
-    answer: &[u8],
     answered: Answered<'_>,
-) -> Result<Told, OutOfMemory>
-    ensures { IfOk result (λ told. MeasuresOver (S.text_of texts.now) instance.now answer.now
-        answered.entry told.output.items told.errors.items told.status) }
+) -> Result<Done, OutOfMemory>
+    ensures { IfOk result (IsDone (S.text_of texts.now) answered.entry) }
 {
     let request = answered.options().request(alloc, Layout::Two)?;
     let mut kept = memory(alloc);
@@ -195,39 +223,25 @@ fn told_over<S: Sources>(
     if kept.writer.failed() || kept.errors.failed() {
         return Err(OutOfMemory);
     }
-    let text = kept.writer.inner().as_slice();
-    Ok(Told {
-        output: measured_text(alloc, &request, instance, answer, text)?,
+    Ok(Done {
+        request,
+        output: Vec::from_slice(alloc, kept.writer.inner().as_slice())?,
         errors: Vec::from_slice(alloc, kept.errors.inner().as_slice())?,
         status,
     })
 }
 
-/// The text of an evaluation, with the lines of the measures before its last line.
-fn measured_text(
-    alloc: Global,
-    request: &Request,
-    instance: &[u8],
-    answer: &[u8],
-    text: &[u8],
-) -> Result<Vec<u8>, OutOfMemory>
-    ensures { IfOk result (λ measured. IsMeasured request.now instance.now answer.now text.now
-        measured.items) }
-{
-    let measures = answer_measures(alloc, request, instance, answer)?;
-    with_measures(Vec::from_slice(alloc, text)?, &measures)
-}
-
-/// What the answer's schedule comes to by each objective, where all texts are well formed.
+/// What the answer's schedule comes to by each objective, where all texts are well formed. Each text
+/// is given up when it was read.
 fn answer_measures(
     alloc: Global,
     request: &Request,
-    instance: &[u8],
-    answer: &[u8],
+    instance: Vec<u8>,
+    answer: Vec<u8>,
 ) -> Result<Option<Measures>, OutOfMemory>
-    ensures { IfOk result (AreOfAnswer request.now instance.now answer.now) }
+    ensures { IfOk result (AreOfAnswer request.now instance.items answer.items) }
 {
-    let Some(posed) = posed_in(alloc, request, instance)? else {
+    let Some(posed) = posed_of(alloc, request, instance)? else {
         return Ok(None);
     };
     let Some(answer) = answer_said(alloc, answer)? else {
@@ -236,12 +250,25 @@ fn answer_measures(
     Ok(Some(measures_of(alloc, &posed, answer.pieces.as_slice())?))
 }
 
-/// The answer of a text, if the text is well formed.
-fn answer_said(alloc: Global, text: &[u8]) -> Result<Option<Answer<Global>>, OutOfMemory>
-    ensures { IfOk result (λ found. MatchOption found (IsErr (answer_in text.now))
-        (λ answer. (sheet : SheetData) × (answer_in text.now ≡ Ok sheet) × (answer ≡ sheet.answer))) }
+/// What the request and an instance text mean, if they are well formed.
+fn posed_of(
+    alloc: Global,
+    request: &Request,
+    text: Vec<u8>,
+) -> Result<Option<PosedInstance<Global>>, OutOfMemory>
+    ensures { IfOk result (λ found. MatchOption found (IsUnposed request.now text.items)
+        (IsPosed request.now text.items)) }
 {
-    match read_answer(alloc, text) {
+    posed_in(alloc, request, text.as_slice())
+}
+
+/// The answer of a text, if the text is well formed.
+fn answer_said(alloc: Global, text: Vec<u8>) -> Result<Option<Answer<Global>>, OutOfMemory>
+    ensures { IfOk result (λ found. MatchOption found (IsErr (answer_in text.items))
+        (λ answer. (sheet : SheetData) × (answer_in text.items ≡ Ok sheet)
+        × (answer ≡ sheet.answer))) }
+{
+    match read_answer(alloc, text.as_slice()) {
         Ok(sheet) => Ok(Some(sheet.into_answer())),
         Err(AnswerFault::OutOfMemory) => Err(OutOfMemory),
         Err(_) => Ok(None),

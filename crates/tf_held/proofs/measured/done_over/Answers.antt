@@ -6,8 +6,7 @@ use Rattle.tf_command.specs.Formatted.{held}
 use Rattle.tf_command.specs.Performing.{Performs}
 use Rattle.tf_text.specs.declared.answer.layout.Layout.TheVariants.{Two}
 use Rattle.tf_asked.specs.Asking.{requested}
-use Rattle.tf_held.specs.Measured.{IsMeasured, options_of}
-use Rattle.tf_held.proofs.measured.told_over.Goals as goal
+use Rattle.tf_held.proofs.measured.done_over.Goals as goal
 
 pub returns : goal.returns
 returns g c = record {
@@ -22,13 +21,10 @@ returns g c = record {
       c.perform-status.ensures;
   whole = sym c.failed.ensures ∙ c.if-failed.false;
   told = sym c.failed-else-failed.ensures ∙ c.if-failed-2.false;
-  measured = subst (λ text. IsMeasured (requested (options_of c.args.answered) Two)
-      c.args.instance.now c.args.answer.now text c.in_ok-measured_text.field-0.items)
-      (c.as_slice-text.ensures.value ∙ ap (λ v. v.items) c.inner.ensures)
-      (subst (λ request. IsMeasured request c.args.instance.now c.args.answer.now
-      c.as_slice-text.result.now c.in_ok-measured_text.field-0.items)
-      (c.in_ok-request.ensures ∙ ap (λ options. requested options Two) c.options.ensures)
-      c.in_ok-measured_text.ensures);
-  errors_is = c.in_ok-from_slice.ensures.items ∙ c.as_slice.ensures.value
+  output = c.in_ok-from_slice.ensures.items ∙ c.as_slice.ensures.value
+      ∙ ap (λ v. v.items) c.inner.ensures;
+  errors = c.in_ok-from_slice-2.ensures.items ∙ c.as_slice-2.ensures.value
       ∙ ap (λ v. v.items) c.inner-2.ensures;
+  request = c.request-2.view_is ∙ c.in_ok-request.ensures
+      ∙ ap (λ options. requested options Two) c.options.ensures;
 }
