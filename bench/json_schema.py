@@ -4,7 +4,8 @@
     python3 bench/json_schema.py
 
 Of each command with --json both outputs are empty or one object on one line, which fits the definition of its command, or of
-what is said on standard error; its first member is the version. That the program prints what the sessions show is tested by
+what is said on standard error; its first member is the version. Of several instances there is such a line for each, and the
+second member is its number. That the program prints what the sessions show is tested by
 playing them. The judge of schemas here knows the few words of JSON Schema that this schema has.
 """
 import json
@@ -67,9 +68,14 @@ def faults(value, schema, whole, place="$"):
                 yield f"{place} has {name}"
 
 
+def is_range(words):
+    """Whether a command line names several instances."""
+    return "--index" in words and not words[words.index("--index") + 1].isdigit()
+
+
 def definition_of(words):
     """The definition of what a command line prints on standard output."""
-    if "--orders" in words:
+    if "--orders" in words and not is_range(words):
         return "orders"
     return "border" if "--border" in words else words[0]
 
@@ -98,7 +104,8 @@ def main():
             words = command.words()
             if "--json" not in words or command.status == 5 or "--help" in words:
                 continue
-            shown = [(command.output, definition_of(words)), (command.errors, "said")]
+            lines = command.output.splitlines(keepends=True) if is_range(words) else [command.output]
+            shown = [(line, definition_of(words)) for line in lines] + [(command.errors, "said")]
             for text, name in shown:
                 if not text:
                     continue

@@ -15,7 +15,7 @@ import tempfile
 
 import sessions
 
-STEPS = re.compile(r"\rstep \d+ of \d+|\r\x1b\[K")
+STEPS = re.compile(r"\r(step|instance) \d+ of \d+|\r\x1b\[K")
 
 
 def run(program, command):

@@ -4,8 +4,9 @@
     python3 bench/terminal.py PROGRAM
 
 On a terminal a refusal is explained, unless --explain=never is given, and a long search shows how far it is on a line that it
-clears at the end: of a bound the steps, of a plan what the best schedule costs and the lower bound. On a pipe there is the line of the fault alone. Standard output and status are the same. Sessions are played on
-pipes, so only this check sees that the program asks whether there is a terminal.
+clears at the end: of a bound the steps, of a plan what the best schedule costs and the lower bound, of several instances whose
+turn it is. On a pipe there is the line of the fault alone. Standard output and status are the same. Sessions are played on pipes,
+so only this check sees that the program asks whether there is a terminal.
 """
 import os
 import pty
@@ -72,6 +73,12 @@ def cases(program, folder):
     explained = on_pipe([*search, "--explain"], folder)
     yield "an explained search on a pipe", explained[:2] == pipe[:2] and STEP not in explained[2]
     yield "a search on a terminal", terminal[:2] == pipe[:2] and STEP in terminal[2] and terminal[2].endswith(CLEARED)
+    with open(os.path.join(folder, "wt.txt"), "w", encoding="ascii") as file:
+        file.write("2 3 1\n1 2 4\n5 -2 9\n4 1 3\n2 2 3\n6 7 8\n")
+    series = [program, "solve", "-p", "1||sumwC", "-f", "wt", "--jobs", "3", "--index", "1-2", "wt.txt"]
+    turns = "".join(f"\rinstance {number} of 2{CLEARED}" for number in (1, 2))
+    yield "a series on a pipe", on_pipe(series, folder) == (0, b"1 18\n2 30\n", "")
+    yield "a series on a terminal", on_terminal(series, folder) == (0, b"1 18\n2 30\n", turns)
     with open(os.path.join(folder, "shop.txt"), "w", encoding="ascii") as file:
         rows = "".join(f"0 {3 + 7 * k % 11} 1 {1 + 5 * k % 13} 2 {2 + 3 * k % 7}\n" for k in range(1, 16))
         file.write(f"instance shop\n15 3\n{rows}")

@@ -25,6 +25,12 @@ impl<'a> Shown<'a> {
         }
     }
 
+    /// Whether it is played with a terminal. That shows of a range of instances whose turn it is, so
+    /// such a command has one only where this is shown.
+    pub fn has_terminal(&self) -> bool {
+        !self.command.contains("--index") || self.said.contains('\r')
+    }
+
     /// Whether the command ends exactly as shown.
     pub fn is_met(&self, ended: &Ended) -> bool {
         ended.status == self.status

@@ -95,7 +95,7 @@ impl<'a> Session<'a> {
         let texts = Texts {
             all: self.texts.as_slice(),
         };
-        let ended = run(self.alloc, shown.command, texts)?;
+        let ended = run(self.alloc, shown.command, texts, shown.has_terminal())?;
         if shown.is_met(&ended) {
             self.met = self.met.saturating_add(1);
             return Ok(());

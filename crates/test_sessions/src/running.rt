@@ -18,8 +18,14 @@ pub struct Ended {
 /// A console whose devices are kept in memory.
 type Kept<'a> = Console<&'a mut Vec<u8>, &'a mut Vec<u8>>;
 
-/// Runs the command line of these words behind the program's name, as the program does.
-pub fn run(alloc: Global, line: &str, texts: Texts<'_>) -> Result<Ended, AllocError> {
+/// Runs the command line of these words behind the program's name, as the program does, with or
+/// without a terminal that shows how far it is.
+pub fn run(
+    alloc: Global,
+    line: &str,
+    texts: Texts<'_>,
+    has_terminal: bool,
+) -> Result<Ended, AllocError> {
     let words = words_of(alloc, line)?;
     let mut written = Vec::new(alloc);
     let mut shown = Vec::new(alloc);
@@ -28,11 +34,15 @@ pub fn run(alloc: Global, line: &str, texts: Texts<'_>) -> Result<Ended, AllocEr
         alloc,
         writer: Counted::new(&mut written),
         errors: Counted::new(&mut said),
-        terminal: Some(Counted::new(&mut shown)),
+        terminal: if has_terminal {
+            Some(Counted::new(&mut shown))
+        } else {
+            None
+        },
     };
     let status = perform(&mut console, words.as_slice(), texts);
     drop(console);
-    // The progress of a search is shown before anything is said.
+    // Progress is shown before anything is said.
     shown.extend_from_slice(said.as_slice())?;
     Ok(Ended {
         status: status?,

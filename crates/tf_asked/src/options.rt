@@ -18,7 +18,7 @@ use tf_trace::board::Style;
 /// The most steps of the search for prices.
 pub const MOST_STEPS: u32 = 1_000_000;
 
-/// The problem and the instance that the words name.
+/// The problem and the instance, and how they are read and told.
 #[derive(Drop)]
 pub struct Options<'a> {
     pub problem: &'a str,
@@ -140,7 +140,7 @@ pub struct Assessing<'a> {
 /// Where the orders of jobs or the pieces come from whose schedules are evaluated.
 #[derive(Clone, Copy, Debug)]
 pub enum OrderSource<'a> {
-    /// One order, on the command line, and how much is reported of the certificate of the optimum.
+    /// One order, as it is given, and how much is reported of the certificate of the optimum.
     Given(&'a str, Detail),
     /// The order of a rule, and the same.
     Ruled(Rule, Detail),
@@ -176,7 +176,7 @@ pub struct Picturing<'a> {
     pub telling: Telling,
 }
 
-/// What a command line that is well formed asks for.
+/// What a command is to do.
 #[derive(Drop)]
 pub enum Work<'a> {
     /// Solve, and print the answer in this version.

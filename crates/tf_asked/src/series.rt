@@ -1,4 +1,5 @@
 //! What is asked for of several instances of a weighted tardiness file.
+use tf_sequencing::rule::Rule;
 
 /// Instances of a file, counted from 1: from the first to the last, or to the end of the file.
 #[derive(Clone, Copy, Debug, PartialEq, Eq)]
@@ -16,6 +17,10 @@ pub enum Told<'a> {
     Bounds(Option<u32>),
     /// The cost and the gap of its answer, which the text of this name holds, after so many steps.
     Answers(&'a str, Option<u32>),
+    /// The same of the order of its jobs, which a line of the text of this name says.
+    Orders(&'a str, Option<u32>),
+    /// The same of the order that a rule gives.
+    Ruled(Rule, Option<u32>),
 }
 
 /// Instances of a weighted tardiness file, of each of which a line is told.
@@ -29,6 +34,6 @@ pub struct Series<'a> {
     pub jobs: u32,
     pub span: Span,
     pub told: Told<'a>,
-    /// Whether what is wrong is said in plain words too.
-    pub explain: bool,
+    /// Whether each line is a JSON object, as is what is said on standard error.
+    pub json: bool,
 }

@@ -151,7 +151,8 @@ judged, and used where it is stronger than the one that is found. --steps lets
 the search for that one take more time, or less.
 
 --index A-B and --index all evaluate the answers of ANSWER, one after another,
-by as many instances of a weighted tardiness file, and print a line for each.
+by as many instances of a weighted tardiness file, and print a line for each;
+with --orders the order in each line, and with --rule that of the rule.
 
 Example: threefield evaluate -p \"P2|prmp|Cmax\" examples/table.txt answer.txt
          threefield evaluate -p \"1||sumC\" --certificate table.txt answer.txt

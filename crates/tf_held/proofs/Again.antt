@@ -32,19 +32,30 @@ use Rattle.tf_evaluate.specs.RunEvaluating.{IsEvaluationOf}
 use Rattle.tf_assess.specs.RunAssessing.{IsAssessmentOf}
 use Rattle.tf_assess.specs.RunRating.{IsRatingOf, is_solved, rated}
 use Rattle.tf_assess.specs.declared.assessment.Assessed.{Assessed}
+use Rattle.tf_orders.specs.declared.measure.Measure.{Measure}
+use Rattle.tf_orders.specs.declared.measure.Measure.TheVariants as measures
+use Rattle.tf_orders.specs.declared.run_orders.OrderForm.{OrderForm}
+use Rattle.tf_orders.specs.declared.run_orders.OrderForm.TheVariants.{Single, Ruled as ByRule}
+use Rattle.tf_orders.specs.declared.run_orders.OrdersRated.{OrdersRated}
+use Rattle.tf_orders.specs.Measuring.{IsMeasure, detail_of}
+use Rattle.tf_orders.specs.RunOrders.{IsOrdersRunOf}
+use Rattle.tf_asked.specs.declared.aids.Aids.{Aids}
 use Rattle.tf_asked.specs.Asking.{form_asked, requested}
 use Rattle.tf_asked.specs.declared.options.Evaluating.{Evaluating}
 use Rattle.tf_asked.specs.declared.options.FormOption.TheVariants.{Wt}
 use Rattle.tf_asked.specs.declared.options.Options.{Options}
+use Rattle.tf_asked.specs.declared.options.OrderSource.{OrderSource}
+use Rattle.tf_asked.specs.declared.options.OrderSource.TheVariants as sources
 use Rattle.tf_asked.specs.declared.options.Work.{Work as Asking}
 use Rattle.tf_asked.specs.declared.options.Work.TheVariants.{Solve, Bound, Plan, Trace, Check, Evaluate, Assess, Rate, Gantt, Random, Problems, Border, Picture}
 use Rattle.tf_asked.specs.declared.series.Series.{Series}
 use Rattle.tf_asked.specs.declared.series.Told.{Told}
 use Rattle.tf_asked.specs.declared.series.Told.TheVariants as kinds
-use Rattle.tf_command.specs.Ending.{EndsSolving, EndsBounding, EndsEvaluating, SaysLine, line_of, status_of_run, status_of_evaluating}
+use Rattle.tf_command.specs.Ending.{EndsSolving, EndsBounding, EndsEvaluating, EndsRating, SaysLine, line_of, status_of_run, status_of_evaluating, status_of_rating}
 use Rattle.tf_command.specs.Formatted.{held}
-use Rattle.tf_command.specs.Performing.{EndsOver, EndsOverBoth, Performs}
+use Rattle.tf_command.specs.Performing.{EndsOver, EndsOverBoth, Performs, RatesAided, RatesOrders}
 use Rattle.tf_command.specs.Statuses.{status_by, status_of, status_of_standing}
+use Rattle.tf_command.specs.Unread.{Texts}
 use Rattle.tf_held.specs.Texts.{held_texts}
 use Rattle.tf_held.specs.Series.{AreOptionsFor, IsEvaluatedBy, IsWorkFor, RunsFor, has_told}
 use Rattle.tf_held.specs.Instances.{HasInstance, AreParts, IsBehind, IsNamedApart}
@@ -252,7 +263,45 @@ module _ (problem : List ℕ) (machines : Option ℕ) (layout : Layout) (jobs : 
           by (Ok assessed) is same = (Ok assessed, assessing_again assessed is, same)
           by (Err fault) is same = cc
 
+      measure_again : {A : Type 0} (detail : Detail) (by : Measure A)
+          → IsMeasure detail None (asked (InWt jobs m)) own by
+          → IsMeasure detail None (asked (InWt jobs k)) file by
+      measure_again detail (measures.Optimum p task best steps others) is =
+          (is.0, is.1, task_same ∙ is.2, is.3)
+      measure_again detail (measures.Bound task weighed others) is =
+          (is.0, problem_same ∙ is.1, is.2, is.3)
+
+      orders_again : {A : Type 0} (form : OrderForm) (told : OrdersRated)
+          → IsOrdersRunOf {A = A} form None (asked (InWt jobs m)) None reader other writer (Ok told)
+          → IsOrdersRunOf {A = A} form None (asked (InWt jobs k)) None in_file other writer (Ok told)
+      orders_again form told r =
+          let is = r.outcome.2 in
+          record {
+            text = file;
+            is_all = refl;
+            orders_text = r.orders_text;
+            is_whole = r.is_whole;
+            outcome = (
+              r.outcome.0,
+              r.outcome.1,
+              record {
+                measure = measure_again (detail_of form) r.outcome.1
+                    (subst (λ text. IsMeasure (detail_of form) None (asked (InWt jobs m)) text r.outcome.1)
+                    (text_is r.text r.is_all) is.measure);
+                others_are = is.others_are;
+                rated_is = is.rated_is;
+              },
+              r.outcome.3,
+            );
+          }
+
   -- a run that gives an answer read an instance
+  measure_has : {A : Type 0} (detail : Detail) (k : ℕ) (text : List ℕ) (by : Measure A)
+      → IsMeasure detail None (asked (InWt jobs k)) text by
+      → (i : InstanceData) × (weighted_tardiness jobs k text ≡ Ok i)
+  measure_has detail k text (measures.Optimum p task best steps others) is = task_has k text task is.2
+  measure_has detail k text (measures.Bound task weighed others) is = problem_has k text task is.1
+
   module _ (k : ℕ) (text : List ℕ) (reader other writer : DeviceUse)
       (before : reader.before ≡ Some text) where
     all_is : (all : List ℕ) → IsTextOf reader.before all → all ≡ text
@@ -288,6 +337,14 @@ module _ (problem : List ℕ) (machines : Option ℕ) (layout : Layout) (jobs : 
             task_has k text is.outcome.1.task
             (ap (task_for (asked (InWt jobs k))) (sym (all_is is.text is.is_all)) ∙ is.outcome.1.meant)
         by false e = let u = r.unsolved e in assessed u.0 u.1 u.2
+
+    orders_has : {A : Type 0} (form : OrderForm) (told : OrdersRated)
+        → IsOrdersRunOf {A = A} form None (asked (InWt jobs k)) None reader other writer (Ok told)
+        → (i : InstanceData) × (weighted_tardiness jobs k text ≡ Ok i)
+    orders_has form told r =
+        measure_has (detail_of form) k text r.outcome.1
+        (subst (λ all. IsMeasure (detail_of form) None (asked (InWt jobs k)) all r.outcome.1)
+        (all_is r.text r.is_all) r.outcome.2.measure)
 
 -- ---- a status
 
@@ -362,6 +419,7 @@ work_of jobs k (Solve options layout) = Solve (with_number jobs k options) layou
 work_of jobs k (Bound options steps) = Bound (with_number jobs k options) steps
 work_of jobs k (Evaluate evaluating) =
     Evaluate (record evaluating { options = with_number jobs k evaluating.options })
+work_of jobs k (Rate options source aids) = Rate (with_number jobs k options) source aids
 work_of jobs k work = work
 
 options_for : (series : Series) (m k : ℕ) (options : Options) → AreOptionsFor series m options
@@ -372,37 +430,41 @@ options_for series m k options o = record {
   machines = o.machines;
   input = o.input;
   plain = o.plain;
+  unmeasured = o.unmeasured;
 }
 
-work_for : (series : Series) (m k : ℕ) (work : Asking) → IsWorkFor series m work
-    → IsWorkFor series k (work_of series.jobs k work)
-work_for series m k (Solve options layout) is =
+work_for : (series : Series) (m k : ℕ) (beside : List ℕ) (work : Asking)
+    → IsWorkFor series m beside work → IsWorkFor series k beside (work_of series.jobs k work)
+work_for series m k beside (Solve options layout) is =
     (is.0, options_for series m k options is.1, is.2)
-work_for series m k (Bound options steps) is = (is.0, options_for series m k options is.1)
-work_for series m k (Evaluate evaluating) is =
+work_for series m k beside (Bound options steps) is = (is.0, options_for series m k options is.1)
+work_for series m k beside (Evaluate evaluating) is =
     (options_for series m k evaluating.options is.0, evaluated series.told evaluating is.1)
   where
     evaluated : (t : Told) (e : Evaluating) → IsEvaluatedBy t e
         → IsEvaluatedBy t (record e { options = with_number series.jobs k e.options })
     evaluated (kinds.Answers answer steps) e is = is
     evaluated kinds.Values e is = absurd is
+    evaluated (kinds.Orders name steps) e is = absurd is
+    evaluated (kinds.Ruled rule steps) e is = absurd is
     evaluated (kinds.Bounds steps) e is = absurd is
-work_for series m k (Plan options layout steps) is = absurd is
-work_for series m k (Trace options style) is = absurd is
-work_for series m k (Check options answer) is = absurd is
-work_for series m k (Assess assessing) is = absurd is
-work_for series m k (Rate options source aids) is = absurd is
-work_for series m k (Gantt answer drawing explain) is = absurd is
-work_for series m k (Picture picturing) is = absurd is
-work_for series m k (Random wanted) is = absurd is
-work_for series m k (Problems listed name) is = absurd is
-work_for series m k Border is = absurd is
+work_for series m k beside (Plan options layout steps) is = absurd is
+work_for series m k beside (Trace options style) is = absurd is
+work_for series m k beside (Check options answer) is = absurd is
+work_for series m k beside (Assess assessing) is = absurd is
+work_for series m k beside (Rate options source aids) is =
+    (options_for series m k options is.0, is.1, is.2)
+work_for series m k beside (Gantt answer drawing explain) is = absurd is
+work_for series m k beside (Picture picturing) is = absurd is
+work_for series m k beside (Random wanted) is = absurd is
+work_for series m k beside (Problems listed name) is = absurd is
+work_for series m k beside Border is = absurd is
 
 -- ---- what was told
 
 module _ (jobs m : ℕ) (status : ℕ) (told : has_told status ≡ true) (writer : DeviceUse)
     (says : List ℕ → Type 0) where
-  module _ (options : Options) (layout : Layout) (form : form_asked options.form ≡ InWt jobs m) where
+  module _ (options : Options) (layout : Layout) (form_is : form_asked options.form ≡ InWt jobs m) where
     abbrev request : FormData → RequestData
     request = asked options.problem.now options.machines layout jobs
 
@@ -418,7 +480,7 @@ module _ (jobs m : ℕ) (status : ℕ) (told : has_told status ≡ true) (writer
             × (status ≡ 0) × says []
         by (Ok u) outcome ends said = (
           u,
-          subst (λ f. IsRunOf {A = Global} (request f) reader writer (Ok u)) form outcome,
+          subst (λ f. IsRunOf {A = Global} (request f) reader writer (Ok u)) form_is outcome,
           ends,
           said,
         )
@@ -438,7 +500,7 @@ module _ (jobs m : ℕ) (status : ℕ) (told : has_told status ≡ true) (writer
             × (status ≡ 0) × says []
         by (Ok u) outcome ends said = (
           u,
-          subst (λ f. IsBoundingOf {A = Global} (request f) reader writer (Ok u)) form outcome,
+          subst (λ f. IsBoundingOf {A = Global} (request f) reader writer (Ok u)) form_is outcome,
           ends,
           said,
         )
@@ -460,12 +522,52 @@ module _ (jobs m : ℕ) (status : ℕ) (told : has_told status ≡ true) (writer
             × (status ≡ status_of_standing standing) × says []
         by (Ok standing) outcome ends said = (
           standing,
-          subst (λ f. IsRatingOf {A = Global} detail (request f) reader other writer (Ok standing)) form outcome,
+          subst (λ f. IsRatingOf {A = Global} detail (request f) reader other writer (Ok standing)) form_is outcome,
           ends,
           said,
         )
         by (Err fault) outcome ends said =
             absurd (none_told fault (subst (λ n. has_told n ≡ true) ends told))
+
+    told_orders : (form : OrderForm) (reader other : DeviceUse)
+        → EndsRating Global form None (requested options layout) None reader other writer says status
+        → (rating : OrdersRated)
+        × IsOrdersRunOf {A = Global} form None (request (InWt jobs m)) None reader other writer (Ok rating)
+        × (status ≡ status_of_rating {A = Global} (Ok rating)) × says []
+    told_orders form reader other e = by e.run e.outcome e.ends e.said
+      where
+        by : (run : Result OrdersRated (RunFault Global))
+            → IsOrdersRunOf form None (requested options layout) None reader other writer run
+            → status ≡ status_of_rating run → says (line_of run)
+            → (rating : OrdersRated)
+            × IsOrdersRunOf {A = Global} form None (request (InWt jobs m)) None reader other writer (Ok rating)
+            × (status ≡ status_of_rating {A = Global} (Ok rating)) × says []
+        by (Ok rating) outcome ends said = (
+          rating,
+          subst (λ f. IsOrdersRunOf {A = Global} form None (request f) None reader other writer (Ok rating)) form_is outcome,
+          ends,
+          said,
+        )
+        by (Err fault) outcome ends said =
+            absurd (none_told fault (subst (λ n. has_told n ≡ true) ends told))
+
+-- ---- orders are rated beside no bound, by the objective of the problem alone
+
+module _ (texts : Texts) (options : Options) (source : OrderSource) (aids : Aids)
+    (writer : DeviceUse) (says : Bool → List ℕ → Type 0) (status : ℕ) (none : aids.bound ≡ None)
+    (plain : options.telling.measures ≡ false) where
+  alone : Performs texts (Rate options source aids) writer says status
+      → RatesOrders false texts options source None writer says status
+  alone done =
+      subst (λ measured. RatesOrders measured texts options source None writer says status) plain
+      (subst (λ bound. RatesAided bound texts options source writer says status) none done)
+
+  aided : RatesOrders false texts options source None writer says status
+      → Performs texts (Rate options source aids) writer says status
+  aided done =
+      subst (λ bound. RatesAided bound texts options source writer says status) (sym none)
+      (subst (λ measured. RatesOrders measured texts options source None writer says status)
+      (sym plain) done)
 
 -- ---- a command
 
@@ -477,8 +579,28 @@ module _ (series : Series) (m : ℕ) (own answer : List ℕ) (writer : DeviceUse
   abbrev Ran : Asking → Type 0
   Ran work = Performs (held_texts input own answer) work writer says status
 
+  -- orders are rated over an instance and a text that is known
+  abbrev RatesBy : Options → OrderForm → List ℕ → DeviceUse → Type 0
+  RatesBy options form text instance =
+      (reader : DeviceUse) × (reader.before ≡ Some text)
+      × EndsRating Global form None (requested options Two) None instance reader writer
+      (says options.telling.explain) status
+
+  rated_has : (options : Options) → AreOptionsFor series m options → (form : OrderForm)
+      (text : List ℕ)
+      → EndsOver (held_texts input own answer) options.input.now writer
+      (says options.telling.explain) status (RatesBy options form text)
+      → HasInstance series own m
+  rated_has options is form text done =
+      let through = opened input options.input.now own answer is.input writer
+      (says options.telling.explain) status (RatesBy options form text) done in
+      let run = told_orders series.jobs m status told writer (says options.telling.explain) options
+      Two is.form form through.0 through.2.0 through.2.2 in
+      orders_has options.problem.now options.machines Two series.jobs m own through.0 through.2.0 writer
+      through.1 form run.0 run.1
+
   -- it told of an instance, so the text has it
-  ran_has : (work : Asking) → IsWorkFor series m work → Ran work → HasInstance series own m
+  ran_has : (work : Asking) → IsWorkFor series m answer work → Ran work → HasInstance series own m
   ran_has (Solve options layout) is done =
       let through = opened input options.input.now own answer is.1.input writer
       (says options.telling.explain) status
@@ -511,7 +633,16 @@ module _ (series : Series) (m : ℕ) (own answer : List ℕ) (writer : DeviceUse
   ran_has (Trace options style) is done = absurd is
   ran_has (Check options answer) is done = absurd is
   ran_has (Assess assessing) is done = absurd is
-  ran_has (Rate options source aids) is done = absurd is
+  ran_has (Rate options (sources.Given order detail) aids) is done =
+      rated_has options is.0 (Single detail) order.now
+      (alone (held_texts input own answer) options (sources.Given order detail) aids writer says status
+      is.2 is.0.unmeasured done)
+  ran_has (Rate options (sources.Ruled rule detail) aids) is done =
+      rated_has options is.0 (ByRule rule detail) []
+      (alone (held_texts input own answer) options (sources.Ruled rule detail) aids writer says status
+      is.2 is.0.unmeasured done)
+  ran_has (Rate options (sources.Named name goes_on is_numbered) aids) is done = absurd is.1
+  ran_has (Rate options (sources.Drawn name detail) aids) is done = absurd is.1
   ran_has (Gantt answer drawing explain) is done = absurd is
   ran_has (Picture picturing) is done = absurd is
   ran_has (Random wanted) is done = absurd is
@@ -521,7 +652,33 @@ module _ (series : Series) (m : ℕ) (own answer : List ℕ) (writer : DeviceUse
   -- and it tells the same of an instance that another text has
   module _ (k : ℕ) (file : List ℕ) (apart : IsNamedApart input series.told)
       (same : weighted_tardiness series.jobs k file ≡ weighted_tardiness series.jobs m own) where
-    ran_again : (work : Asking) → IsWorkFor series m work → Ran work
+    rated_again : (options : Options) → AreOptionsFor series m options → (form : OrderForm)
+        (text : List ℕ)
+        → EndsOver (held_texts input own answer) options.input.now writer
+        (says options.telling.explain) status (RatesBy options form text)
+        → EndsOver (held_texts input file answer) options.input.now writer
+        (says options.telling.explain) status (RatesBy (with_number series.jobs k options) form text)
+    rated_again options is form text done =
+        let explain = options.telling.explain in
+        let through = opened input options.input.now own answer is.input writer (says explain) status
+        (RatesBy options form text) done in
+        let run = told_orders series.jobs m status told writer (says explain) options Two is.form form
+        through.0 through.2.0 through.2.2 in
+        opens input options.input.now file answer is.input writer (says explain) status
+        (RatesBy (with_number series.jobs k options) form text)
+        (record through.0 { before = Some file }) refl (
+          through.2.0,
+          through.2.1,
+          record {
+            run = Ok run.0;
+            outcome = orders_again options.problem.now options.machines Two series.jobs m k own file
+                same through.0 through.2.0 writer through.1 form run.0 run.1;
+            ends = run.2;
+            said = run.3;
+          },
+        )
+
+    ran_again : (work : Asking) → IsWorkFor series m answer work → Ran work
         → Performs (held_texts input file answer) (work_of series.jobs k work) writer says status
     ran_again (Solve options layout) is done =
         let explain = options.telling.explain in
@@ -592,11 +749,26 @@ module _ (series : Series) (m : ℕ) (own answer : List ℕ) (writer : DeviceUse
             ap (λ b. Some (cond b own answer)) other ∙ sym (ap (λ b. Some (cond b file answer)) other)
         answer_is kinds.Values e by differ = absurd by
         answer_is (kinds.Bounds steps) e by differ = absurd by
+        answer_is (kinds.Orders name steps) e by differ = absurd by
+        answer_is (kinds.Ruled rule steps) e by differ = absurd by
     ran_again (Plan options layout steps) is done = absurd is
     ran_again (Trace options style) is done = absurd is
     ran_again (Check options answer) is done = absurd is
     ran_again (Assess assessing) is done = absurd is
-    ran_again (Rate options source aids) is done = absurd is
+    ran_again (Rate options (sources.Given order detail) aids) is done =
+        aided (held_texts input file answer) (with_number series.jobs k options)
+        (sources.Given order detail) aids writer says status is.2 is.0.unmeasured
+        (rated_again options is.0 (Single detail) order.now
+        (alone (held_texts input own answer) options (sources.Given order detail) aids writer says
+        status is.2 is.0.unmeasured done))
+    ran_again (Rate options (sources.Ruled rule detail) aids) is done =
+        aided (held_texts input file answer) (with_number series.jobs k options)
+        (sources.Ruled rule detail) aids writer says status is.2 is.0.unmeasured
+        (rated_again options is.0 (ByRule rule detail) []
+        (alone (held_texts input own answer) options (sources.Ruled rule detail) aids writer says
+        status is.2 is.0.unmeasured done))
+    ran_again (Rate options (sources.Named name goes_on is_numbered) aids) is done = absurd is.1
+    ran_again (Rate options (sources.Drawn name detail) aids) is done = absurd is.1
     ran_again (Gantt answer drawing explain) is done = absurd is
     ran_again (Picture picturing) is done = absurd is
     ran_again (Random wanted) is done = absurd is
@@ -629,7 +801,7 @@ runs_again series file own ahead answer k status output errors parts apart told 
     ap (λ n. weighted_tardiness series.jobs n file) (sym here) ∙ next ∙ sym has.1 in
     record {
       work = work_of series.jobs k r.work;
-      is = work_for series 1 k r.work r.is;
+      is = work_for series 1 k answer r.work r.is;
       before = r.before;
       after = r.after;
       blank = r.blank;

@@ -1,4 +1,4 @@
--- The first answer of a text.
+-- The first answer or order of a text.
 use Rattle.std.proofs.Common.{◌≡◌, ℕ, suc, ◌+◌, ◌-◌, ◌<◌, true, false, eqb, List, [], ◌∷◌, length, take, drop, min, refl, sym, ap, subst, ◌∙◌, arith, inl, inr}
 use Rattle.std.specs.List.{onto_first, position_or_len}
 use Rattle.std.proofs.lemmas.Bool.{cases_Bool, cases_lt}
@@ -6,7 +6,7 @@ use Rattle.std.proofs.lemmas.List.{drop-drop, drop_all, length-drop}
 use Rattle.std.proofs.Math.Seq.{take-length}
 use Rattle.tf_words.specs.Words.{lines, words}
 use Rattle.tf_words.proofs.Lines.{line_none}
-use Rattle.tf_held.specs.AnswerTexts.{after_end, are_end}
+use Rattle.tf_held.specs.AnswerTexts.{IsNextOrder, after_end, after_kept, are_end, first_kept}
 
 abbrev feed : List ℕ → ℕ
 feed text = position_or_len (λ b. eqb b 10) text
@@ -75,3 +75,15 @@ goes_on line before after is more = ap after_end is ∙ rw more refl
 -- nothing is left
 pub none_left : (text : List ℕ) → length text ≡ 0 → lines text ≡ after_end (lines text)
 none_left text none = line_none text none ∙ sym (ap after_end (line_none text none))
+
+-- no line is left that may be an order
+pub no_order : (text rest : List ℕ) → first_kept (lines text) ≡ first_kept (lines rest)
+    → after_kept (lines text) ≡ after_kept (lines rest) → length rest ≡ 0
+    → IsNextOrder text rest rest
+no_order text [] first after none =
+    let over : lines [] ≡ [] = line_none [] refl in
+    record {
+      first = sym (first ∙ ap first_kept over);
+      after = over ∙ sym (after ∙ ap after_kept over);
+    }
+no_order text (b ∷ bs) first after none = absurd (omega (arith, none))

@@ -6,3 +6,4 @@ pub mod Again
 pub mod Lines
 pub mod Counted
 pub mod Measuring
+mod Unread

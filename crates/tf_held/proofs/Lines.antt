@@ -5,10 +5,9 @@ use Rattle.std.proofs.KnownBytes.{Appends-kept, Appends-nil, Appends-trans}
 use Rattle.std.proofs.lemmas.List.{length-append}
 use Rattle.tf_asked.specs.declared.series.Series.{Series}
 use Rattle.tf_text.specs.Counted.{DeviceUse, inner_of}
-use Rattle.tf_export.specs.Entry.{entry}
 use Rattle.tf_command.specs.Formatted.{Memory}
-use Rattle.tf_held.specs.AnswerTexts.{IsNext}
-use Rattle.tf_held.specs.Series.{AreEntries, EndsUntold, IsAll, IsCutAt, IsEntry, IsStopAt, IsStopped, IsUnwritten, Tells, WritesAll, WritesUntil, joined, no_instance}
+use Rattle.tf_held.specs.AnswerTexts.{IsNextFor}
+use Rattle.tf_held.specs.Series.{AreEntries, EndsUntold, IsAll, IsCutAt, IsEntry, IsStopAt, IsStopped, IsUnwritten, Tells, WritesAll, WritesUntil, joined, line_for, no_instance}
 use Rattle.tf_held.specs.declared.series.Stop.{Stop}
 use Rattle.tf_held.specs.declared.series.Stop.TheVariants as stops
 use Rattle.tf_held.proofs.Told.{no_last}
@@ -23,13 +22,13 @@ joined_snoc (first ∷ texts) text =
 -- one more line behind the others
 pub entries_snoc : (series : Series) (instance : List ℕ) (number : ℕ) (answers : List ℕ)
     (lines : List (List ℕ)) (rest answer after line : List ℕ)
-    → AreEntries series instance number answers lines rest → IsNext rest answer after
+    → AreEntries series instance number answers lines rest → IsNextFor series.told rest answer after
     → IsEntry series instance answer (number + length lines) line
     → AreEntries series instance number answers (lines ++ line ∷ []) after
 entries_snoc series instance number answers [] rest answer after line none next last = (
   answer,
   after,
-  subst (λ (text : List ℕ). IsNext text answer after) (sym none) next,
+  subst (λ (text : List ℕ). IsNextFor series.told text answer after) (sym none) next,
   (let here : number + 0 ≡ number = omega arith in
       subst (λ (n : ℕ). IsEntry series instance answer n line) here last),
   refl,
@@ -68,7 +67,7 @@ here_is first number steps n at count = omega (arith, at, count)
 pub gone_on : (series : Series) (instance answers rest : List ℕ) (steps number : ℕ)
     (answer more line : List ℕ) (before now next : Option (List ℕ))
     → Progress series instance answers rest steps before now → number ≡ series.span.first + steps
-    → IsEntry series instance answer number line → IsNext rest answer more → Appends now next line
+    → IsEntry series instance answer number line → IsNextFor series.told rest answer more → Appends now next line
     → Progress series instance answers more (steps + 1) before next
 gone_on series instance answers rest steps number answer more line before now next done at is cut written =
     record {
@@ -87,14 +86,14 @@ gone_on series instance answers rest steps number answer more line before now ne
 pub entry_of : (series : Series) (instance answer : List ℕ) (number : ℕ) (kept : Memory)
     (text : List ℕ) → Tells series instance answer number (Some kept)
     → text ≡ (inner_of kept.writer).items
-    → IsEntry series instance answer number (entry number text)
+    → IsEntry series instance answer number (line_for series number text)
 entry_of series instance answer number kept text tells is = record {
   status = tells.0;
   output = (inner_of kept.writer).items;
   errors = tells.1;
   runs = tells.2;
   told = tells.3;
-  is = ap (entry number) is;
+  is = ap (line_for series number) is;
 }
 
 reached : (series : Series) (instance rest : List ℕ) (last : Option ℕ) (next : ℕ)
@@ -118,7 +117,7 @@ finished series instance answers rest steps writer done at = record {
 }
 
 over : (series : Series) (instance rest answer after : List ℕ) (number : ℕ) (last : Option ℕ)
-    → last ≡ None → IsNext rest answer after → series.span.first < number
+    → last ≡ None → IsNextFor series.told rest answer after → series.span.first < number
     → ((status : ℕ) × EndsUntold series instance answer number status no_instance)
     → IsAll series instance rest last number
 over series instance rest answer after number None none next later untold =
@@ -129,7 +128,7 @@ over series instance rest answer after number (Some last) none next later untold
 -- the file has no more instances
 pub come_to_end : (series : Series) (instance answers rest answer after : List ℕ) (steps number : ℕ)
     (writer : DeviceUse) → Progress series instance answers rest steps writer.before writer.after
-    → number ≡ series.span.first + steps → IsNext rest answer after
+    → number ≡ series.span.first + steps → IsNextFor series.told rest answer after
     → Tells series instance answer number None → WritesAll series instance answers writer
 come_to_end series instance answers rest answer after steps number writer done at next (none, later, untold) =
     record {
@@ -150,7 +149,7 @@ is_asked (Some last) first steps within = omega (arith, within)
 -- the instance whose turn it is, and its answer
 cut_at : (series : Series) (instance answers rest answer after : List ℕ) (steps : ℕ)
     (before now : Option (List ℕ)) → (done : Progress series instance answers rest steps before now)
-    → steps < unwrap_or series.span.last 4294967295 + 1 - series.span.first → IsNext rest answer after
+    → steps < unwrap_or series.span.last 4294967295 + 1 - series.span.first → IsNextFor series.told rest answer after
     → IsCutAt series instance answers done.lines answer
 cut_at series instance answers rest answer after steps before now done within next = record {
   rest = rest;
@@ -166,7 +165,7 @@ stops_here : (series : Series) (instance answers rest answer after : List ℕ) (
     (writer : DeviceUse) (stop : Stop)
     → Progress series instance answers rest steps writer.before writer.after
     → number ≡ series.span.first + steps
-    → steps < unwrap_or series.span.last 4294967295 + 1 - series.span.first → IsNext rest answer after
+    → steps < unwrap_or series.span.last 4294967295 + 1 - series.span.first → IsNextFor series.told rest answer after
     → IsStopAt series instance answer number stop → IsStopped series instance answers writer stop
 stops_here series instance answers rest answer after steps number writer stop done at within next is =
     record {
@@ -183,7 +182,7 @@ pub stopped : (series : Series) (instance answers rest answer after : List ℕ) 
     (writer : DeviceUse) (stop : Stop)
     → Progress series instance answers rest steps writer.before writer.after
     → number ≡ series.span.first + steps
-    → steps < unwrap_or series.span.last 4294967295 + 1 - series.span.first → IsNext rest answer after
+    → steps < unwrap_or series.span.last 4294967295 + 1 - series.span.first → IsNextFor series.told rest answer after
     → IsStopAt series instance answer number stop → WritesUntil series instance answers writer stop
 stopped series instance answers rest answer after steps number writer stops.Memory done at within next is =
     stops_here series instance answers rest answer after steps number writer stops.Memory done at
@@ -199,7 +198,7 @@ pub cut_off : (series : Series) (instance answers rest answer after line : List 
     (steps number : ℕ) (now : Option (List ℕ)) (writer : DeviceUse) (stop : Stop)
     → Progress series instance answers rest steps writer.before now
     → number ≡ series.span.first + steps
-    → steps < unwrap_or series.span.last 4294967295 + 1 - series.span.first → IsNext rest answer after
+    → steps < unwrap_or series.span.last 4294967295 + 1 - series.span.first → IsNextFor series.told rest answer after
     → IsEntry series instance answer number line
     → IsUnwritten (record { before = now; after = writer.after; failed = writer.failed }) line stop
     → WritesUntil series instance answers writer stop

@@ -18,7 +18,7 @@ use Rattle.tf_held.specs.Series.{EndsUntold, IsWorkFor, RunsFor, has_told, no_in
 
 -- the work of an instance was done over texts, of which the first has the name of the file
 pub ran : (series : Series) (named instance answer : List ℕ) (number status : ℕ) (work : Asking)
-    (before after : Memory) → named ≡ series.input.now → IsWorkFor series number work
+    (before after : Memory) → named ≡ series.input.now → IsWorkFor series number answer work
     → (inner_of before.writer).items ≡ [] → (inner_of before.errors).items ≡ []
     → Performs (held_texts named instance answer) work (use_of held before.writer after.writer)
     (λ explain. SaysLine held explain before.errors after.errors) status

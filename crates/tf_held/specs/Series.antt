@@ -1,42 +1,53 @@
 -- What is told of each of several instances of a weighted tardiness file.
-use Rattle.std.specs.Prelude.{◌≡◌, ◌⊎◌, ℕ, ◌+◌, ◌<◌, ◌≤◌, max, Bool, true, false, ◌||◌, ◌==◌, List, [], ◌∷◌, ◌++◌, length, take, Option, None, Some, IfSome, codes}
+use Rattle.std.specs.Prelude.{◌≡◌, ◌⊎◌, ℕ, ◌+◌, ◌<◌, ◌≤◌, max, Bool, true, false, ◌||◌, ◌==◌, List, [], ◌∷◌, ◌++◌, length, take, Option, None, Some, IfSome, IsUtf8, codes, if◌then◌else◌}
 use Rattle.std.specs.List.{flat_map}
 use Rattle.std.specs.Fmt.{decimal}
+use Rattle.std.specs.Borrow.{Bor}
 use Rattle.std.specs.Io.KnownBytes.{Appends, Keeps}
 use Rattle.tf_text.specs.AnswerText.{line_text}
 use Rattle.tf_text.specs.Counted.{AppendsPrefix, DeviceUse, inner_of, has_failed, use_of}
 use Rattle.tf_text.specs.Input.{IsTextOf}
-use Rattle.tf_text.specs.declared.answer.layout.Layout.TheVariants.{Two}
+use Rattle.tf_text.specs.declared.answer.layout.Layout.TheVariants.{One, Two}
 use Rattle.tf_engine.specs.FormData.{InWt}
 use Rattle.tf_evaluate.specs.declared.evaluation.Detail.TheVariants.{Summary}
+use Rattle.tf_export.specs.Documents.{json_of}
 use Rattle.tf_export.specs.Entry.{entry}
+use Rattle.tf_export.specs.Faults.{fault_json}
+use Rattle.tf_export.specs.declared.documents.Document.{Document}
+use Rattle.tf_export.specs.declared.documents.Document.TheVariants as documents
+use Rattle.tf_asked.specs.declared.format.Format.TheVariants.{Json}
 use Rattle.tf_asked.specs.Asking.{form_asked}
 use Rattle.tf_asked.specs.declared.options.Evaluating.{Evaluating}
 use Rattle.tf_asked.specs.declared.options.Options.{Options}
+use Rattle.tf_asked.specs.declared.options.OrderSource.{OrderSource}
+use Rattle.tf_asked.specs.declared.options.OrderSource.TheVariants as sources
 use Rattle.tf_asked.specs.declared.options.Work.{Work as Asking}
-use Rattle.tf_asked.specs.declared.options.Work.TheVariants.{Solve, Bound, Evaluate}
+use Rattle.tf_asked.specs.declared.options.Work.TheVariants.{Solve, Bound, Evaluate, Rate}
 use Rattle.tf_asked.specs.declared.series.Series.{Series}
 use Rattle.tf_asked.specs.declared.series.Told.{Told}
-use Rattle.tf_asked.specs.declared.series.Told.TheVariants.{Values, Bounds, Answers}
+use Rattle.tf_asked.specs.declared.series.Told.TheVariants.{Values, Bounds, Answers, Orders, Ruled}
 use Rattle.tf_command.specs.Ending.{SaysLine}
-use Rattle.tf_command.specs.Formatted.{Memory, held}
+use Rattle.tf_command.specs.Formatted.{Memory, device_line, held, memory_line}
 use Rattle.tf_command.specs.Performing.{Performs}
 use Rattle.tf_command.specs.Unread.{Texts}
-use Rattle.tf_held.specs.AnswerTexts.{IsNext}
+use Rattle.tf_held.specs.AnswerTexts.{IsNextFor}
 use Rattle.tf_command.specs.Unread.{IsUnread}
+use Rattle.tf_command.specs.Wrote.{Wrote}
+use Rattle.tf_text.specs.declared.counted.Counted.{Counted}
 use Rattle.tf_held.specs.Texts.{held_texts}
 use Rattle.tf_held.specs.declared.series.Stop.{Stop}
 use Rattle.tf_held.specs.declared.series.Stop.TheVariants as stops
 
 -- ---- one instance
 
--- the options that name the instance of this number alone, and explain nothing
+-- the options that name the instance of this number alone, and tell and explain no more of it
 pub record AreOptionsFor (series : Series) (number : ℕ) (options : Options) : Type 0 where
   pub problem : options.problem.now ≡ series.problem.now
   pub form : form_asked options.form ≡ InWt series.jobs number
   pub machines : options.machines ≡ series.machines
   pub input : options.input.now ≡ series.input.now
   pub plain : options.telling.explain ≡ false
+  pub unmeasured : options.telling.measures ≡ false
 
 -- an answer is evaluated by text alone
 abbrev pub IsEvaluatedBy : Told → Evaluating → Type 0
@@ -44,21 +55,39 @@ IsEvaluatedBy (Answers answer steps) evaluating =
     (evaluating.answer.now ≡ answer.now) × (evaluating.detail ≡ Summary) × (evaluating.steps ≡ steps)
 IsEvaluatedBy _ evaluating = ⊥
 
--- the work of the command that is about the instance of this number alone
-abbrev pub IsWorkFor : Series → ℕ → Asking → Type 0
-IsWorkFor series number (Solve options layout) =
-    (series.told ≡ Values) × AreOptionsFor series number options × (layout ≡ Two)
-IsWorkFor series number (Bound options steps) =
+-- an order that a line says: the line, or nothing where it is no text in UTF-8
+abbrev pub IsOrderIn : List ℕ → List ℕ → Type 0
+IsOrderIn line order = (order ≡ line) ⊎ ((¬ (IsUtf8 line)) × (order ≡ []))
+
+-- the order of a line, or that of a rule, is evaluated by text alone, after so many steps
+abbrev pub IsRatedBy : Told → List ℕ → OrderSource → Option ℕ → Type 0
+IsRatedBy told line (sources.Given order detail) steps =
+    (name : Bor (List ℕ)) × (told ≡ Orders name steps) × IsOrderIn line order.now
+    × (detail ≡ Summary)
+IsRatedBy told line (sources.Ruled rule detail) steps =
+    (told ≡ Ruled rule steps) × (detail ≡ Summary)
+IsRatedBy told line _ steps = ⊥
+
+-- the work of the command that is about the instance of this number alone, beside an answer, or the
+-- line of an order
+abbrev pub IsWorkFor : Series → ℕ → List ℕ → Asking → Type 0
+IsWorkFor series number answer (Solve options layout) =
+    (series.told ≡ Values) × AreOptionsFor series number options
+    × (layout ≡ (if series.json then One else Two))
+IsWorkFor series number answer (Bound options steps) =
     (series.told ≡ Bounds steps) × AreOptionsFor series number options
-IsWorkFor series number (Evaluate evaluating) =
+IsWorkFor series number answer (Evaluate evaluating) =
     AreOptionsFor series number evaluating.options × IsEvaluatedBy series.told evaluating
-IsWorkFor series number _ = ⊥
+IsWorkFor series number answer (Rate options source aids) =
+    AreOptionsFor series number options × IsRatedBy series.told answer source aids.steps
+    × (aids.bound ≡ None)
+IsWorkFor series number answer _ = ⊥
 
 -- that work was done over the file and an answer, and this is what it wrote in memory
 pub record RunsFor (series : Series) (instance answer : List ℕ) (number status : ℕ)
     (output errors : List ℕ) : Type 0 where
   pub work : Asking
-  pub is : IsWorkFor series number work
+  pub is : IsWorkFor series number answer work
   pub before : Memory
   pub after : Memory
   pub blank : (inner_of before.writer).items ≡ []
@@ -75,6 +104,21 @@ pub record RunsFor (series : Series) (instance answer : List ℕ) (number status
 abbrev pub has_told : ℕ → Bool
 has_told status = status == 0 || status == 1 || status == 6
 
+-- ---- its line
+
+-- what the command prints, as a document
+abbrev pub document_of : Told → Document
+document_of Values = documents.Answer
+document_of (Bounds steps) = documents.Bound
+document_of _ = documents.Evaluation
+
+-- the line of the instance of this number, of which the command printed this: its document, or what
+-- that tells
+abbrev pub line_for : Series → ℕ → List ℕ → List ℕ
+line_for series number output =
+    if series.json then json_of (document_of series.told) (Some number) output
+    else entry number output
+
 -- the line of an instance
 pub record IsEntry (series : Series) (instance answer : List ℕ) (number : ℕ) (line : List ℕ) : Type 0
   where
@@ -83,7 +127,7 @@ pub record IsEntry (series : Series) (instance answer : List ℕ) (number : ℕ)
     pub errors : List ℕ
     pub runs : RunsFor series instance answer number status output errors
     pub told : has_told status ≡ true
-    pub is : line ≡ entry number output
+    pub is : line ≡ line_for series number output
 
 -- the command ended for the instance of this number and this answer without telling, and said this
 pub record EndsUntold (series : Series) (instance answer : List ℕ) (number status : ℕ)
@@ -111,13 +155,18 @@ Tells series instance answer number None =
 abbrev pub instance_line : ℕ → List ℕ
 instance_line number = line_text (codes "threefield: instance" ∷ decimal number ∷ [])
 
+-- what is said of the instance of this number, of which the command said this
+abbrev pub said_for : Series → ℕ → List ℕ → List ℕ
+said_for series number errors =
+    if series.json then fault_json (Some number) errors else errors ++ instance_line number
+
 -- why there is no line of the instance of this number
 abbrev pub IsStopAt : Series → List ℕ → List ℕ → ℕ → Stop → Type 0
 IsStopAt series instance answer number stops.Memory = Unit {0}
 IsStopAt series instance answer number stops.Unwritten = ⊥
 IsStopAt series instance answer number (stops.Ended status said) =
     (errors : List ℕ) × EndsUntold series instance answer number status errors
-    × (said.items ≡ errors ++ instance_line number)
+    × (said.items ≡ said_for series number errors)
 
 -- why the line of an instance was not written
 abbrev pub IsUnwritten : DeviceUse → List ℕ → Stop → Type 0
@@ -128,12 +177,12 @@ IsUnwritten writer line (stops.Ended status said) = ⊥
 
 -- ---- all of them
 
--- lines of the instances from this number on, by the answers that stand one after the other in a
--- text, and what is left of that text
+-- lines of the instances from this number on, by the answers or orders that stand one after the other
+-- in a text, and what is left of that text
 abbrev pub AreEntries : Series → List ℕ → ℕ → List ℕ → List (List ℕ) → List ℕ → Type 0
 AreEntries series instance number answers [] rest = answers ≡ rest
 AreEntries series instance number answers (line ∷ lines) rest =
-    (answer : List ℕ) × (after : List ℕ) × IsNext answers answer after
+    (answer : List ℕ) × (after : List ℕ) × IsNextFor series.told answers answer after
     × IsEntry series instance answer number line
     × AreEntries series instance (number + 1) after lines rest
 
@@ -148,7 +197,7 @@ IsAll series instance rest (Some last) next = next ≡ max series.span.first (la
 IsAll series instance rest None next =
     (next ≡ max series.span.first 4294967296)
     ⊎ ((series.span.first < next)
-    × ((answer : List ℕ) × (after : List ℕ) × IsNext rest answer after
+    × ((answer : List ℕ) × (after : List ℕ) × IsNextFor series.told rest answer after
     × ((status : ℕ) × EndsUntold series instance answer next status no_instance)))
 
 -- a line of each was written, in their order
@@ -169,7 +218,7 @@ pub record IsCutAt (series : Series) (instance answers : List ℕ) (lines : List
   pub entries : AreEntries series instance series.span.first answers lines rest
   pub asked : IfSome series.span.last (λ last. series.span.first + length lines ≤ last)
   pub after : List ℕ
-  pub next : IsNext rest answer after
+  pub next : IsNextFor series.told rest answer after
 
 -- the lines before an instance that has none were written
 pub record IsStopped (series : Series) (instance answers : List ℕ) (writer : DeviceUse)
@@ -201,22 +250,31 @@ WritesUntil series instance answers writer stops.Unwritten =
 WritesUntil series instance answers writer (stops.Ended status said) =
     IsStopped series instance answers writer (stops.Ended status said)
 
+-- what is said where there was no memory
+abbrev pub memory_said : Series → List ℕ
+memory_said series =
+    if series.json then memory_line (Json (document_of series.told))
+    else codes "threefield: want of memory\n"
+
 -- the status, and what is said
 abbrev pub status_of_stop : Stop → ℕ
 status_of_stop stops.Memory = 3
 status_of_stop stops.Unwritten = 4
 status_of_stop (stops.Ended status said) = status
 
-abbrev pub line_of_stop : Stop → List ℕ
-line_of_stop stops.Memory = codes "threefield: want of memory\n"
-line_of_stop stops.Unwritten = codes "threefield: device fault\n"
-line_of_stop (stops.Ended status said) = said.items
+abbrev pub line_of_stop : Series → Stop → List ℕ
+line_of_stop series stops.Memory = memory_said series
+line_of_stop series stops.Unwritten =
+    if series.json then device_line (Json (document_of series.told))
+    else codes "threefield: device fault\n"
+line_of_stop series (stops.Ended status said) = said.items
 
 -- ---- how it ends
 
--- the text of the answers, and an empty one where none are evaluated
+-- the text of the answers or orders, and an empty one where none are evaluated
 abbrev pub HasAnswers : Texts → Told → List ℕ → Type 0
 HasAnswers texts (Answers name steps) answers = IsTextOf (texts name.now) answers
+HasAnswers texts (Orders name steps) orders = IsTextOf (texts name.now) orders
 HasAnswers texts _ answers = answers ≡ []
 
 -- all lines were written
@@ -240,9 +298,38 @@ pub record EndsStopped (texts : Texts) (series : Series) (writer : DeviceUse)
   pub stop : Stop
   pub is : WritesUntil series instance answers writer stop
   pub ends : status ≡ status_of_stop stop
-  pub said : says (line_of_stop stop)
+  pub said : says (line_of_stop series stop)
+
+-- the file, or the text of the answers, was not read, which is said as text or as JSON; or there was
+-- no memory to say so
+abbrev pub says_as : Series → (List ℕ → Type 0) → List ℕ → Type 0
+says_as series says line = says (if series.json then fault_json None line else line)
+
+-- what was said in memory was said as JSON, with its status; or there was no memory for that
+pub record IsSaidAgain {E : Type 0} (contents : E → Option (List ℕ)) (kept : Memory) (wanted : ℕ)
+    (old new : Counted E) (status : ℕ) : Type 0 where
+  pub whole : has_failed kept.errors ≡ false
+  pub ends : status ≡ wanted
+  pub wrote : Wrote contents old new (fault_json None (inner_of kept.errors).items)
+
+abbrev pub SaidKept : {E : Type 0} → (E → Option (List ℕ)) → Memory → ℕ → Counted E → Counted E → ℕ
+    → Type 0
+SaidKept contents kept wanted old new status =
+    IsSaidAgain contents kept wanted old new status
+    ⊎ ((status ≡ 3)
+    × Wrote contents old new (codes "{\"version\":1,\"fault\":\"want of memory\"}\n"))
+
+pub record IsWanting (series : Series) (writer : DeviceUse) (says : List ℕ → Type 0) (status : ℕ)
+    : Type 0 where
+  pub unwritten : Keeps writer.before writer.after
+  pub ends : status ≡ 3
+  pub said : says (memory_said series)
+
+abbrev pub IsUnreadFor : Texts → Series → DeviceUse → (List ℕ → Type 0) → ℕ → Type 0
+IsUnreadFor texts series writer says status =
+    IsUnread texts writer (says_as series says) status ⊎ IsWanting series writer says status
 
 abbrev pub EndsSeries : Texts → Series → DeviceUse → (List ℕ → Type 0) → ℕ → Type 0
 EndsSeries texts series writer says status =
     EndsTold texts series writer says status ⊎ EndsStopped texts series writer says status
-    ⊎ IsUnread texts writer says status
+    ⊎ IsUnreadFor texts series writer says status

@@ -1,43 +1,51 @@
 //! A line for each of several instances of a weighted tardiness file.
 ghost use Rattle.std.specs.Str.{bytes_eq};
 ghost use Rattle.std.specs.Prelude.{◌≡◌, ◌++◌, ◌-◌, ℕ, List, true, false, IfOk, IfErr, IfSome, OnOk};
-ghost use Rattle.std.specs.Prelude.{MatchResult};
+ghost use Rattle.std.specs.Prelude.{MatchResult, None, if◌then◌else◌};
 ghost use Rattle.std.specs.Io.KnownBytes.{Appends};
-ghost use Rattle.tf_export.specs.Entry.{entry};
+ghost use Rattle.tf_export.specs.Faults.{fault_json};
+ghost use Rattle.tf_asked.specs.Columns.{IsSized};
 ghost use Rattle.tf_asked.specs.declared.options.Work.{Work as Asking};
 ghost use Rattle.tf_command.specs.Ending.{SaysLine};
 ghost use Rattle.tf_command.specs.Formatted.{held};
 ghost use Rattle.tf_command.specs.Performing.{Performs};
 ghost use Rattle.tf_command.specs.Wrote.{Wrote};
-ghost use Rattle.tf_text.specs.Counted.{inner_of, use_of};
+ghost use Rattle.tf_text.specs.Counted.{has_failed, inner_of, use_of};
+ghost use Rattle.tf_text.specs.Input.{IsTextOf};
+ghost use Rattle.tf_text.specs.declared.answer.layout.Layout.TheVariants.{One, Two};
 ghost use Rattle.tf_held.specs.declared.series.Stop.TheVariants.{Memory, Unwritten};
-ghost use Rattle.tf_command.specs.Unread.{IsUnread};
 ghost use Rattle.tf_held.specs.Texts.{held_texts};
 ghost use Rattle.tf_held.specs.Series.{EndsSeries, HasAnswers, IsStopAt, IsUnwritten};
 ghost use Rattle.tf_held.specs.Series.{WritesAll, WritesUntil};
-ghost use Rattle.tf_held.specs.Series.{IsWorkFor, AreOptionsFor};
-ghost use Rattle.tf_held.specs.Series.{Tells, has_told, instance_line, line_of_stop, no_instance};
+ghost use Rattle.tf_held.specs.Series.{IsOrderIn, IsWorkFor, AreOptionsFor};
+ghost use Rattle.tf_held.specs.AnswerTexts.{IsNextFor};
+ghost use Rattle.tf_held.specs.Series.{IsUnreadFor, SaidKept, Tells, document_of, has_told};
+ghost use Rattle.tf_held.specs.Series.{line_for, line_of_stop, no_instance, said_for};
 ghost use Rattle.tf_held.specs.Series.{status_of_stop, RunsFor};
 ghost use Rattle.tf_held.specs.Instances.{AreParts, HasInstance, IsBehind, IsNamedApart};
 ghost use Rattle.tf_held.specs.Instances.{words_behind};
 ghost use Rattle.tf_words.specs.Words.{words};
 
-use crate::answers::next_answer;
+use crate::answers::{next_answer, next_order};
 use crate::held::Held;
 use crate::words_split::split_words;
+use itoa::Buffer;
 use std::alloc::Global;
 use std::io::Write;
-use tf_asked::options::{Evaluating, FormOption, Options, Telling};
+use tf_asked::aids::Aids;
+use tf_asked::options::{Evaluating, FormOption, Options, OrderSource, Telling, Work};
 use tf_asked::series::{Series, Told};
-use tf_command::commands::{bound_named, evaluate_named, solve_named};
+use tf_command::commands::perform;
 use tf_command::console::Console;
-use tf_command::formatted::memory;
+use tf_command::formatted::{JSON_DEVICE, JSON_MEMORY, memory};
 use tf_command::gathered::send;
 use tf_command::reading::text_named;
 use tf_command::report::{say_device, say_memory};
 use tf_command::source::Sources;
 use tf_evaluate::evaluation::Detail;
+use tf_export::documents::{Document, json};
 use tf_export::entry::push_entry;
+use tf_export::faults::fault_json;
 use tf_model::memory::OutOfMemory;
 use tf_text::answer::layout::Layout;
 use tf_text::answer::writing::push_number_line;
@@ -86,7 +94,7 @@ pub fn perform_series<S: Sources, W: Write, E: Write>(
         (use_of W.contents console.old.writer console.new.writer)
         (SaysLine E.contents false console.old.errors console.new.errors) result }
 {
-    let instance = match text_named(console, sources, series.input, false) {
+    let instance = match text_for(console, sources, series, series.input) {
         Ok(text) => text,
         Err(status) => return status,
     };
@@ -100,13 +108,17 @@ pub fn perform_series<S: Sources, W: Write, E: Write>(
         instance.as_slice(),
         answers.as_slice(),
         &mut console.writer,
+        &mut console.terminal,
     ) {
         Ok(()) => 0,
-        Err(stop) => tell_stop(&stop, &mut console.errors),
+        Err(stop) => {
+            clear(&mut console.terminal);
+            tell_stop(series, &stop, &mut console.errors)
+        }
     }
 }
 
-/// The text of the answers, and an empty one where none are evaluated.
+/// The text of the answers or orders, and an empty one where none are evaluated.
 fn answers_named<S: Sources, W: Write, E: Write>(
     console: &mut Console<W, E>,
     sources: &S,
@@ -115,22 +127,79 @@ fn answers_named<S: Sources, W: Write, E: Write>(
     ensures text { IfOk result (λ text.
         HasAnswers (S.text_of sources.now) series.now.told text.items) }
     ensures kept { IfOk result (λ _. console.new ≡ console.old) }
-    ensures unread { IfErr result (IsUnread (S.text_of sources.now) (use_of W.contents console.old.writer console.new.writer)
+    ensures unread { IfErr result (IsUnreadFor (S.text_of sources.now) series.now
+        (use_of W.contents console.old.writer console.new.writer)
         (SaysLine E.contents false console.old.errors console.new.errors)) }
 {
     match series.told {
-        Told::Answers(name, _) => text_named(console, sources, name, false),
+        Told::Answers(name, _) | Told::Orders(name, _) => {
+            text_for(console, sources, series, name)
+        }
         _ => Ok(Vec::new(console.alloc)),
     }
 }
 
-/// Writes the lines of the instances of a file, in their order, each when it is known.
-fn write_lines<W: Write>(
+/// The text of that name. Where it cannot be read, says so, as text or as JSON, and gives the
+/// status.
+fn text_for<S: Sources, W: Write, E: Write>(
+    console: &mut Console<W, E>,
+    sources: &S,
+    series: &Series<'_>,
+    name: &str,
+) -> Result<Vec<u8>, u8>
+    ensures text { IfOk result (λ text. IsTextOf (S.text_of sources.now name.now) text.items) }
+    ensures kept { IfOk result (λ _. console.new ≡ console.old) }
+    ensures unread { IfErr result (IsUnreadFor (S.text_of sources.now) series.now
+        (use_of W.contents console.old.writer console.new.writer)
+        (SaysLine E.contents false console.old.errors console.new.errors)) }
+{
+    if !series.json {
+        return text_named(console, sources, name, false);
+    }
+    let mut kept = memory(console.alloc);
+    match text_named(&mut kept, sources, name, false) {
+        Ok(text) => Ok(text),
+        Err(status) => Err(say_kept(console.alloc, &kept, status, &mut console.errors)),
+    }
+}
+
+/// Says as JSON what was said in memory, and gives its status, or says that there is no memory.
+fn say_kept<E: Write>(alloc: Global, kept: &Kept, status: u8, errors: &mut Counted<E>) -> u8
+    ensures { SaidKept E.contents kept.now status errors.old errors.new result }
+{
+    match json_kept(alloc, kept) {
+        Ok(said) => {
+            send(errors, said.as_slice());
+            status
+        }
+        Err(_) => {
+            send(errors, JSON_MEMORY);
+            3
+        }
+    }
+}
+
+/// What was said in memory, as JSON.
+fn json_kept(alloc: Global, kept: &Kept) -> Result<Vec<u8>, OutOfMemory>
+    ensures whole { OnOk result (has_failed kept.now.errors ≡ false) }
+    ensures said { IfOk result
+        (λ said. said.items ≡ fault_json None (inner_of kept.now.errors).items) }
+{
+    if kept.errors.failed() {
+        return Err(OutOfMemory);
+    }
+    fault_json(alloc, None, kept.errors.inner().as_slice())
+}
+
+/// Writes the lines of the instances of a file, in their order, each when it is known. Meanwhile a
+/// terminal shows whose turn it is.
+fn write_lines<W: Write, E: Write>(
     alloc: Global,
     series: &Series<'_>,
     instance: &[u8],
     answers: &[u8],
     writer: &mut Counted<W>,
+    terminal: &mut Option<Counted<E>>,
 ) -> Result<(), Stop>
     ensures { MatchResult result
         (λ _. WritesAll series.now instance.now answers.now
@@ -144,16 +213,24 @@ fn write_lines<W: Write>(
     let last = u64::from(series.span.last.unwrap_or(u32::MAX));
     for step in 0..(last + 1).saturating_sub(first) {
         let number = (first + step) as u32;
-        let (answer, more) = next_answer(rest);
+        let (answer, more) = next_for(&series.told, rest);
         let held = Held {
             name: series.input,
             instance,
             other: answer,
         };
         let parts = parts_of(series, ahead);
+        show_turn(terminal, number, series.span.last);
         match told_next(alloc, series, held, parts, number)? {
-            Some(kept) => write_entry(alloc, number, kept.writer.inner().as_slice(), writer)?,
-            None => return Ok(()),
+            Some(kept) => {
+                clear(terminal);
+                let text = kept.writer.inner().as_slice();
+                write_entry(alloc, series, number, text, writer)?;
+            }
+            None => {
+                clear(terminal);
+                return Ok(());
+            }
         }
         rest = more;
         ahead = Some(behind(series, instance, parts, number));
@@ -161,22 +238,81 @@ fn write_lines<W: Write>(
     Ok(())
 }
 
+/// Shows on a terminal that it is the turn of the instance of this number.
+fn show_turn<E: Write>(terminal: &mut Option<Counted<E>>, number: u32, last: Option<u32>) {
+    let Some(terminal) = terminal else {
+        return;
+    };
+    let mut digits = Buffer::new();
+    send(terminal, b"\rinstance ");
+    send(terminal, digits.format(number).as_bytes());
+    if let Some(last) = last {
+        send(terminal, b" of ");
+        send(terminal, digits.format(last).as_bytes());
+    }
+}
+
+/// Clears the line on a terminal.
+fn clear<E: Write>(terminal: &mut Option<Counted<E>>) {
+    if let Some(terminal) = terminal {
+        send(terminal, b"\r\x1b[K");
+    }
+}
+
+/// What a text of answers or orders has for the next instance, and what is left of it.
+fn next_for<'a>(told: &Told<'_>, text: &'a [u8]) -> (&'a [u8], &'a [u8])
+    ensures { IsNextFor told.now text.now result.0.now result.1.now }
+{
+    match told {
+        Told::Orders(..) => next_order(text),
+        _ => next_answer(text),
+    }
+}
+
 /// Writes the line of the instance of this number, of which a command wrote this text.
 fn write_entry<W: Write>(
     alloc: Global,
+    series: &Series<'_>,
     number: u32,
     text: &[u8],
     writer: &mut Counted<W>,
 ) -> Result<(), Stop>
     ensures written { OnOk result (Appends (W.contents (inner_of writer.old))
-        (W.contents (inner_of writer.new)) (entry number text.now)) }
+        (W.contents (inner_of writer.new)) (line_for series.now number text.now)) }
     ensures unwritten { IfErr result
-        (IsUnwritten (use_of W.contents writer.old writer.new) (entry number text.now)) }
+        (IsUnwritten (use_of W.contents writer.old writer.new) (line_for series.now number text.now)) }
 {
-    let mut line = Vec::new(alloc);
-    push_entry(&mut line, number, text)?;
+    let line = line_for(alloc, series, number, text)?;
     writer.push_all(line.as_slice())?;
     Ok(())
+}
+
+/// The line of the instance of this number, of which a command wrote this text.
+fn line_for(
+    alloc: Global,
+    series: &Series<'_>,
+    number: u32,
+    text: &[u8],
+) -> Result<Vec<u8>, OutOfMemory>
+    ensures { IfOk result (λ line. line.items ≡ line_for series.now number text.now) }
+{
+    if series.json {
+        return json(alloc, document_of(&series.told), Some(number), text);
+    }
+    let mut line = Vec::new(alloc);
+    push_entry(&mut line, number, text)?;
+    Ok(line)
+}
+
+/// What the command prints, as a document.
+fn document_of(told: &Told<'_>) -> Document
+    ensures { result ≡ document_of told.now }
+{
+    match told {
+        Told::Values => Document::Answer,
+        Told::Bounds(_) => Document::Bound,
+        _ => Document::Evaluation,
+    }
 }
 
 /// The words of the next instance, and the text behind them, where it is known which text is ahead.
@@ -296,13 +432,21 @@ fn told_of(
     if is_later && has_no_instance(errors) {
         return Ok(None);
     }
-    Err(Stop::Ended(status, said_of(alloc, errors, number)?))
+    Err(Stop::Ended(status, said_for(alloc, series, number, errors)?))
 }
 
-/// What was said, and a line that names the instance.
-fn said_of(alloc: Global, errors: &[u8], number: u32) -> Result<Vec<u8>, OutOfMemory>
-    ensures { IfOk result (λ said. said.items ≡ errors.now ++ instance_line number) }
+/// What was said of the instance of this number, and a line that names it, or that as JSON.
+fn said_for(
+    alloc: Global,
+    series: &Series<'_>,
+    number: u32,
+    errors: &[u8],
+) -> Result<Vec<u8>, OutOfMemory>
+    ensures { IfOk result (λ said. said.items ≡ said_for series.now number errors.now) }
 {
+    if series.json {
+        return fault_json(alloc, Some(number), errors);
+    }
     let mut said = Vec::from_slice(alloc, errors)?;
     push_number_line(&mut said, b"threefield: instance", number)?;
     Ok(said)
@@ -341,33 +485,85 @@ fn options_for<'a>(series: &Series<'a>, number: u32) -> Options<'a>
 /// Does the work of the command that is about the instance of this number alone, and gives the
 /// status.
 fn work_over(kept: &mut Kept, series: &Series<'_>, texts: &Held<'_>, number: u32) -> u8
-    ensures { (work : Asking) × IsWorkFor series.now number work
+    ensures { (work : Asking) × IsWorkFor series.now number texts.now.other.now work
         × Performs (held_texts texts.now.name.now texts.now.instance.now texts.now.other.now) work
         (use_of held kept.old.writer kept.new.writer)
         (λ explain. SaysLine held explain kept.old.errors kept.new.errors) result }
 {
+    let work = work_for(series, texts.other, number);
+    perform(kept, texts, &work)
+}
+
+/// The work of the command that is about the instance of this number alone, beside an answer or the
+/// line of an order.
+fn work_for<'a>(series: &Series<'a>, answer: &'a [u8], number: u32) -> Work<'a>
+    ensures sized { IsSized result }
+    ensures work { IsWorkFor series.now number answer.now result }
+{
     let options = options_for(series, number);
     match series.told {
-        Told::Values => solve_named(kept, texts, &options, Layout::Two),
-        Told::Bounds(steps) => bound_named(kept, texts, &options, steps),
-        Told::Answers(answer, steps) => {
-            let evaluating = Evaluating {
-                options,
-                answer,
-                detail: Detail::Summary,
-                steps,
-            };
-            evaluate_named(kept, texts, &evaluating)
+        Told::Values => Work::Solve(options, layout_for(series)),
+        Told::Bounds(steps) => Work::Bound(options, steps),
+        Told::Answers(answer, steps) => Work::Evaluate(Evaluating {
+            options,
+            answer,
+            detail: Detail::Summary,
+            steps,
+        }),
+        Told::Orders(_, steps) => {
+            let source = OrderSource::Given(order_in(answer), Detail::Summary);
+            Work::Rate(options, source, aids_of(steps))
+        }
+        Told::Ruled(rule, steps) => {
+            let source = OrderSource::Ruled(rule, Detail::Summary);
+            Work::Rate(options, source, aids_of(steps))
         }
     }
 }
 
+/// The version of an answer: 1 in a JSON object, which names each job of a certificate.
+fn layout_for(series: &Series<'_>) -> Layout
+    ensures { result ≡ (if series.now.json then One else Two) }
+{
+    if series.json {
+        Layout::One
+    } else {
+        Layout::Two
+    }
+}
+
+/// The order that a line says: all of it, and nothing where it is no text in UTF-8.
+fn order_in(line: &[u8]) -> &str
+    ensures { IsOrderIn line.now result.now }
+{
+    match std::str::from_utf8(line) {
+        Ok(order) => order,
+        Err(_) => "",
+    }
+}
+
+/// So many steps of the search for prices, where they are given, and no bound of a text.
+fn aids_of<'a>(steps: Option<u32>) -> Aids<'a>
+    ensures bound { result.bound ≡ None }
+    ensures steps { result.steps ≡ steps }
+{
+    Aids { bound: None, steps }
+}
+
 /// Says why there are no more lines, and gives the status.
-fn tell_stop<E: Write>(stop: &Stop, errors: &mut Counted<E>) -> u8
+fn tell_stop<E: Write>(series: &Series<'_>, stop: &Stop, errors: &mut Counted<E>) -> u8
     ensures status { result ≡ status_of_stop stop.now }
-    ensures said { Wrote E.contents errors.old errors.new (line_of_stop stop.now) }
+    ensures said { Wrote E.contents errors.old errors.new (line_of_stop series.now stop.now) }
 {
     match stop {
+        Stop::Memory if series.json => {
+            send(errors, JSON_MEMORY);
+            3
+        }
+        Stop::Unwritten if series.json => {
+            send(errors, JSON_DEVICE);
+            4
+        }
         Stop::Memory => say_memory(errors),
         Stop::Unwritten => say_device(errors),
         Stop::Ended(status, said) => {

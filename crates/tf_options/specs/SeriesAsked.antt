@@ -1,17 +1,18 @@
 -- What is asked for of several instances of a weighted tardiness file.
-use Rattle.std.specs.Prelude.{◌≡◌, ℕ, Bool, not, ◌&&◌, ◌||◌, ◌==◌, nat_lt, List, Option, None, Some, IsTrue, is_some, codes, if◌then◌else◌}
+use Rattle.std.specs.Prelude.{◌≡◌, ◌⊎◌, ℕ, Bool, true, false, ◌&&◌, ◌||◌, ◌==◌, nat_lt, List, Option, None, Some, IsTrue, is_some, option_map, codes, if◌then◌else◌}
 use Rattle.std.specs.List.{before_first, after_first}
 use Rattle.std.specs.Option.{option_and_then}
 use Rattle.std.specs.Str.{bytes_eq}
 use Rattle.tf_model.specs.Limit.{most_jobs, most_machines}
 use Rattle.tf_options.specs.OptionNumber.{numeral_in}
-use Rattle.tf_options.specs.Matched.{Given, IsNumberBy, explains_by, first_fault, is_word, lacks, machines_fault, most_steps, number_by, steps_fault, unless_some}
+use Rattle.tf_options.specs.Matched.{Given, IsFlagBy, IsNumberBy, first_fault, is_word, lacks, machines_fault, most_steps, number_by, steps_fault, unless_some}
+use Rattle.tf_options.specs.Understood.{rule_by}
 use Rattle.tf_options.specs.declared.options.Asked.{Asked}
 use Rattle.tf_options.specs.declared.options.Asked.TheVariants as asking
 use Rattle.tf_asked.specs.declared.series.Series.{Series}
 use Rattle.tf_asked.specs.declared.series.Span.{Span}
 use Rattle.tf_asked.specs.declared.series.Told.{Told}
-use Rattle.tf_asked.specs.declared.series.Told.TheVariants.{Values, Bounds, Answers}
+use Rattle.tf_asked.specs.declared.series.Told.TheVariants.{Values, Bounds, Answers, Orders, Ruled}
 
 -- ---- the instances
 
@@ -36,15 +37,36 @@ span_of given =
     then option_and_then span_in (given.value (codes "index")) else None
 
 -- the command of this name tells of several instances
-abbrev pub takes_span : List ℕ → Given → Bool
-takes_span name given =
+abbrev pub takes_span : List ℕ → Bool
+takes_span name =
     bytes_eq name (codes "solve")
-    || (bytes_eq name (codes "bound")
-    || (bytes_eq name (codes "evaluate")
-    && (is_some (given.value (codes "ANSWER")) && not (is_some (given.value (codes "bound"))))))
+    || (bytes_eq name (codes "bound") || bytes_eq name (codes "evaluate"))
 
 abbrev pub span_for : List ℕ → Given → Option Span
-span_for name given = if takes_span name given then span_of given else None
+span_for name given = if takes_span name then span_of given else None
+
+-- no more is evaluated of an instance than its line tells, and nothing that is of one instance alone
+pub record IsLineEach (given : Given) : Type 0 where
+  pub order : given.value (codes "order") ≡ None
+  pub schedule : given.value (codes "schedule") ≡ None
+  pub bound : given.value (codes "bound") ≡ None
+  pub measures : IsFlagBy (given.flag (codes "measures")) false
+  pub certificate : IsFlagBy (given.flag (codes "certificate")) false
+  pub csv : IsFlagBy (given.flag (codes "csv")) false
+  pub summary : IsFlagBy (given.flag (codes "summary")) false
+  pub grade : IsFlagBy (given.flag (codes "grade")) false
+
+-- more is asked for: an option that is of one instance has a value, or a flag of more than a line is on
+abbrev pub AsksMore : Given → Type 0
+AsksMore given =
+    IsTrue (is_some (given.value (codes "order")))
+    ⊎ IsTrue (is_some (given.value (codes "schedule")))
+    ⊎ IsTrue (is_some (given.value (codes "bound")))
+    ⊎ IsFlagBy (given.flag (codes "csv")) true
+    ⊎ IsFlagBy (given.flag (codes "summary")) true
+    ⊎ IsFlagBy (given.flag (codes "grade")) true
+    ⊎ IsFlagBy (given.flag (codes "measures")) true
+    ⊎ IsFlagBy (given.flag (codes "certificate")) true
 
 -- ---- what is told of them
 
@@ -52,19 +74,26 @@ abbrev pub IsToldBy : List ℕ → Given → Told → Type 0
 IsToldBy name given Values = name ≡ codes "solve"
 IsToldBy name given (Bounds steps) =
     (name ≡ codes "bound") × IsNumberBy 1 most_steps (given.value (codes "steps")) steps
+IsToldBy name given (Ruled rule steps) =
+    (name ≡ codes "evaluate") × (option_map rule_by (given.value (codes "rule")) ≡ Some rule)
+    × IsNumberBy 1 most_steps (given.value (codes "steps")) steps
+IsToldBy name given (Orders orders steps) =
+    (name ≡ codes "evaluate") × (given.value (codes "rule") ≡ None)
+    × (given.value (codes "orders") ≡ Some orders.now)
+    × IsNumberBy 1 most_steps (given.value (codes "steps")) steps
 IsToldBy name given (Answers answer steps) =
-    (name ≡ codes "evaluate") × (given.value (codes "ANSWER") ≡ Some answer.now)
+    (name ≡ codes "evaluate") × (given.value (codes "rule") ≡ None)
+    × (given.value (codes "orders") ≡ None) × (given.value (codes "ANSWER") ≡ Some answer.now)
     × IsNumberBy 1 most_steps (given.value (codes "steps")) steps
 
-pub record IsSeriesBy (name : List ℕ) (given : Given) (on_terminal : Bool) (series : Series) : Type 0
-  where
-    pub problem : given.value (codes "problem") ≡ Some series.problem.now
-    pub input : given.value (codes "INPUT") ≡ Some series.input.now
-    pub machines : IsNumberBy 1 most_machines (given.value (codes "machines")) series.machines
-    pub jobs : number_by given (codes "jobs") 1 most_jobs ≡ Some series.jobs
-    pub span : span_for name given ≡ Some series.span
-    pub told : IsToldBy name given series.told
-    pub explain : series.explain ≡ explains_by (given.value (codes "explain")) on_terminal
+pub record IsSeriesBy (name : List ℕ) (given : Given) (series : Series) : Type 0 where
+  pub problem : given.value (codes "problem") ≡ Some series.problem.now
+  pub input : given.value (codes "INPUT") ≡ Some series.input.now
+  pub machines : IsNumberBy 1 most_machines (given.value (codes "machines")) series.machines
+  pub jobs : number_by given (codes "jobs") 1 most_jobs ≡ Some series.jobs
+  pub span : span_for name given ≡ Some series.span
+  pub told : IsToldBy name given series.told
+  pub json : IsFlagBy (given.flag (codes "json")) series.json
 
 -- ---- the first fault
 
@@ -81,11 +110,26 @@ answers_fault given =
     then Some (codes "INPUT and ANSWER cannot both be standard input")
     else None
 
+-- both the instances and the orders are standard input
+abbrev pub lines_fault : Given → Option (List ℕ)
+lines_fault given =
+    if is_word (given.value (codes "orders")) (codes "-")
+    && is_word (given.value (codes "INPUT")) (codes "-")
+    then Some (codes "INPUT and --orders cannot both be standard input")
+    else None
+
+-- of the texts that are evaluated, and then of the steps of the search for prices
+abbrev pub each_fault : Given → Option (List ℕ)
+each_fault given =
+    if is_some (given.value (codes "rule")) then steps_fault given
+    else first_fault (lines_fault given)
+    (if is_some (given.value (codes "orders")) then steps_fault given
+    else first_fault (answers_fault given) (steps_fault given))
+
 abbrev pub told_fault : List ℕ → Given → Option (List ℕ)
 told_fault name given =
     if bytes_eq name (codes "solve") then None
-    else (if bytes_eq name (codes "bound") then steps_fault given
-    else first_fault (answers_fault given) (steps_fault given))
+    else (if bytes_eq name (codes "bound") then steps_fault given else each_fault given)
 
 abbrev pub series_fault : List ℕ → Given → Option (List ℕ)
 series_fault name given =
@@ -97,10 +141,9 @@ lacks_names given = lacks given (codes "problem") || lacks given (codes "INPUT")
 
 -- the instances of which the command of this name tells a line each, the first fault of its values, or
 -- want of memory where clap gave too little
-abbrev pub IsSeriesAsked : List ℕ → Given → Bool → Asked → Type 0
-IsSeriesAsked name given on_terminal (asking.Series series) = IsSeriesBy name given on_terminal series
-IsSeriesAsked name given on_terminal (asking.Unfit message) =
-    series_fault name given ≡ Some message.now
-IsSeriesAsked name given on_terminal asking.NoMemory =
+abbrev pub IsSeriesAsked : List ℕ → Given → Asked → Type 0
+IsSeriesAsked name given (asking.Series series) = IsSeriesBy name given series
+IsSeriesAsked name given (asking.Unfit message) = series_fault name given ≡ Some message.now
+IsSeriesAsked name given asking.NoMemory =
     IsTrue (lacks_names given || lacks given (codes "ANSWER"))
-IsSeriesAsked name given on_terminal _ = ⊥
+IsSeriesAsked name given _ = ⊥

@@ -1,22 +1,25 @@
 -- What a command line asks for, by its words as clap reads them.
-use Rattle.std.specs.Prelude.{◌≡◌, ◌⊎◌, ℕ, Bool, true, List, Option, None, Some, IsTrue, is_some, option_map, codes}
+use Rattle.std.specs.Prelude.{◌≡◌, ◌⊎◌, ◌++◌, ℕ, Bool, true, List, Option, None, Some, IsTrue, is_some, option_map, codes}
 use Rattle.clap.specs.Words.{App, HasMatchesOf, rows_of, subcommand_rows}
 use Rattle.clap.specs.Words.{found_of, subcommand_name_of}
 use Rattle.clap.specs.declared.parser.matches.ArgMatches.{ArgMatches}
 use Rattle.clap.specs.declared.parser.matches.ArgMatches.TheViews.{out-ArgMatches}
 use Rattle.tf_options.specs.FormatAsked.{IsFormatBy, asked_in_format}
 use Rattle.tf_options.specs.Matched.{Given, IsFlagBy, given_of}
-use Rattle.tf_options.specs.SeriesAsked.{IsSeriesAsked, span_for}
+use Rattle.tf_options.specs.SeriesAsked.{AsksMore, IsLineEach, IsSeriesAsked, span_for}
 use Rattle.tf_options.specs.Understood.{IsAskedBy}
 use Rattle.tf_asked.specs.declared.format.Format.{Format}
 use Rattle.tf_options.specs.declared.options.Asked.{Asked}
 use Rattle.tf_options.specs.declared.options.Asked.TheVariants as asking
 
 -- several instances are named, and more of them than a line each is asked for
+abbrev pub one_instance : List ℕ
+one_instance =
+    codes "--csv, --summary, --measures, --certificate, --bound, --order, --schedule and --grade "
+    ++ codes "take one instance, and --index names several"
+
 abbrev pub IsOneInstance : Asked → Type 0
-IsOneInstance (asking.Unfit message) =
-    message.now
-    ≡ codes "--json, --csv, --measures and --certificate take one instance, and --index names several"
+IsOneInstance (asking.Unfit message) = message.now ≡ one_instance
 IsOneInstance _ = ⊥
 
 -- the values of a schedule are asked for in a table of jobs, which has no place for them
@@ -41,7 +44,8 @@ IsFormattedBy name given on_terminal asked =
 abbrev pub IsUnderstoodBy : List ℕ → Given → Bool → Asked → Type 0
 IsUnderstoodBy name given on_terminal asked =
     (IsTrue (is_some (span_for name given))
-    × (IsSeriesAsked name given on_terminal asked ⊎ IsOneInstance asked))
+    × ((IsLineEach given × IsSeriesAsked name given asked)
+    ⊎ (AsksMore given × IsOneInstance asked)))
     ⊎ ((span_for name given ≡ None)
     × ((IsMeasuredList given × IsOrdersAlone asked)
     ⊎ IsFormattedBy name given on_terminal asked))

@@ -21,7 +21,7 @@ ghost use Rattle.tf_options.specs.Understood.{lacks_options, lacks_own, own_faul
 
 use crate::aids::{aids_in, rating_aids_in};
 use crate::formatting::work_in_format;
-use crate::series::{series_asked, span_for};
+use crate::series::{has_line_each, series_asked, span_for};
 use crate::viewing::gantt_in;
 use crate::wanting::wanted_in;
 use crate::wrong::Wrong;
@@ -61,7 +61,8 @@ pub enum Asked<'a> {
 }
 
 const ONE_INSTANCE: &str = "\
---json, --csv, --measures and --certificate take one instance, and --index names several";
+--csv, --summary, --measures, --certificate, --bound, --order, --schedule and --grade \
+take one instance, and --index names several";
 
 const ORDERS_ALONE: &str = "--csv goes with --measures for --orders alone";
 
@@ -75,7 +76,7 @@ pub(crate) fn understand_given<'a>(
     ensures understood { IsUnderstoodBy name.now (given_of given.now) on_terminal result }
 {
     match span_for(name, given) {
-        Some(span) if tells_lines(name, given) => series_asked(name, given, on_terminal, span),
+        Some(span) if has_line_each(given) => series_asked(name, given, span),
         Some(_) => Asked::Unfit(ONE_INSTANCE),
         None if lists_measured_jobs(given) => Asked::Unfit(ORDERS_ALONE),
         None => formatted_by(name, given, on_terminal),
@@ -87,12 +88,6 @@ fn lists_measured_jobs(given: &ArgMatches<'_>) -> bool
     ensures { IsTrue result → IsMeasuredList (given_of given.now) }
 {
     given.get_flag("measures") && given.get_flag("csv") && given.get_str("orders").is_none()
-}
-
-// Whether nothing but a line of each instance is asked for.
-fn tells_lines(name: &str, given: &ArgMatches<'_>) -> bool {
-    let more = given.get_flag("measures") || given.get_flag("certificate");
-    format_in(name, given).is_none() && !more
 }
 
 // What is asked for, with its output in a format where one is named.
@@ -351,7 +346,7 @@ fn orders_in<'a>(given: &ArgMatches<'a>) -> Option<OrderSource<'a>>
 }
 
 // The rule of this name, of the five that clap lets through.
-fn rule_by(name: &str) -> Rule
+pub(crate) fn rule_by(name: &str) -> Rule
     ensures { result ≡ rule_by name.now }
 {
     if name == "EDD" {

@@ -1,14 +1,17 @@
 //! What is asked for of several instances of a weighted tardiness file.
 ghost use Rattle.std.specs.Prelude.{◌≡◌, ◌||◌, None, Some, false, true, codes, IfErr, IfOk};
+ghost use Rattle.std.specs.Prelude.{option_map};
 ghost use Rattle.tf_model.specs.Limit.{most_jobs};
 ghost use Rattle.tf_options.specs.Columns.{HasColumns};
 ghost use Rattle.tf_options.specs.Matched.{IsToldInstead, given_of, lacks, number_by};
-ghost use Rattle.tf_options.specs.SeriesAsked.{IsSeriesAsked, IsSeriesBy, IsToldBy, answers_fault};
-ghost use Rattle.tf_options.specs.SeriesAsked.{jobs_fault, lacks_names, series_fault, span_between};
-ghost use Rattle.tf_options.specs.SeriesAsked.{span_for, span_in, span_of, takes_span, told_fault};
+ghost use Rattle.tf_options.specs.SeriesAsked.{AsksMore, IsLineEach, IsSeriesAsked, IsSeriesBy, IsToldBy};
+ghost use Rattle.tf_options.specs.SeriesAsked.{answers_fault, jobs_fault};
+ghost use Rattle.tf_options.specs.SeriesAsked.{lacks_names, lines_fault, series_fault};
+ghost use Rattle.tf_options.specs.SeriesAsked.{span_between, span_for, span_in, span_of};
+ghost use Rattle.tf_options.specs.SeriesAsked.{takes_span, told_fault};
 
 use crate::aids::is_standard_input;
-use crate::options::{Asked, is_explained, machines_in, number_within, steps_in};
+use crate::options::{Asked, machines_in, number_within, rule_by, steps_in};
 use crate::wrong::Wrong;
 use clap::ArgMatches;
 use tf_asked::series::{Series, Span, Told};
@@ -54,20 +57,17 @@ fn span_of(given: &ArgMatches<'_>) -> Option<Span>
 }
 
 // Whether the command of this name tells of several instances.
-fn takes_span(name: &str, given: &ArgMatches<'_>) -> bool
-    ensures { result ≡ takes_span name.now (given_of given.now) }
+fn takes_span(name: &str) -> bool
+    ensures { result ≡ takes_span name.now }
 {
-    if name == "solve" || name == "bound" {
-        return true;
-    }
-    name == "evaluate" && given.get_str("ANSWER").is_some() && given.get_str("bound").is_none()
+    name == "solve" || name == "bound" || name == "evaluate"
 }
 
 /// The instances of which the command of this name tells a line each, if it does.
 pub(crate) fn span_for(name: &str, given: &ArgMatches<'_>) -> Option<Span>
     ensures { result ≡ span_for name.now (given_of given.now) }
 {
-    if takes_span(name, given) {
+    if takes_span(name) {
         span_of(given)
     } else {
         None
@@ -106,9 +106,22 @@ fn answers_in<'a>(given: &ArgMatches<'a>) -> Result<&'a str, Wrong>
     Ok(answer)
 }
 
+// The name of the orders, if it is given, which cannot be standard input beside the instances.
+fn lines_in<'a>(given: &ArgMatches<'a>) -> Result<Option<&'a str>, Wrong>
+    ensures given { IfOk result
+        (λ name. option_map (λ word. word.now) name ≡ (given_of given.now).value (codes "orders")) }
+    ensures unhurt { IfOk result (λ _. lines_fault (given_of given.now) ≡ None) }
+    ensures fault { IfErr result (IsToldInstead false (lines_fault (given_of given.now))) }
+{
+    if is_standard_input(given, "orders") && is_standard_input(given, "INPUT") {
+        return Err(Wrong::Unfit("INPUT and --orders cannot both be standard input"));
+    }
+    Ok(given.get_str("orders"))
+}
+
 // What the command of this name tells of each instance.
 fn told_in<'a>(name: &str, given: &ArgMatches<'a>) -> Result<Told<'a>, Wrong>
-    requires { takes_span name.now (given_of given.now) ≡ true }
+    requires { takes_span name.now ≡ true }
     ensures given { IfOk result (IsToldBy name.now (given_of given.now)) }
     ensures fault { IfErr result (IsToldInstead (lacks (given_of given.now) (codes "ANSWER"))
         (told_fault name.now (given_of given.now))) }
@@ -119,36 +132,45 @@ fn told_in<'a>(name: &str, given: &ArgMatches<'a>) -> Result<Told<'a>, Wrong>
     if name == "bound" {
         return Ok(Told::Bounds(steps_in(given)?));
     }
+    if let Some(rule) = given.get_str("rule") {
+        return Ok(Told::Ruled(rule_by(rule), steps_in(given)?));
+    }
+    if let Some(orders) = lines_in(given)? {
+        return Ok(Told::Orders(orders, steps_in(given)?));
+    }
     let answers = answers_in(given)?;
     Ok(Told::Answers(answers, steps_in(given)?))
 }
 
+/// Whether no more is evaluated of an instance than its line tells, and nothing that is of one
+/// instance alone.
+pub(crate) fn has_line_each(given: &ArgMatches<'_>) -> bool
+    ensures each { result ≡ true → IsLineEach (given_of given.now) }
+    ensures more { result ≡ false → AsksMore (given_of given.now) }
+{
+    let has_one = given.get_str("order").is_some() || given.get_str("schedule").is_some();
+    let is_beside = given.get_str("bound").is_some();
+    let is_listed = given.get_flag("csv") || given.get_flag("summary") || given.get_flag("grade");
+    let tells_more = given.get_flag("measures") || given.get_flag("certificate");
+    !has_one && !is_beside && !is_listed && !tells_more
+}
+
 /// What the command of this name asks for of several instances.
-pub fn series_asked<'a>(
-    name: &str,
-    given: &ArgMatches<'a>,
-    on_terminal: bool,
-    span: Span,
-) -> Asked<'a>
+pub fn series_asked<'a>(name: &str, given: &ArgMatches<'a>, span: Span) -> Asked<'a>
     requires { span_for name.now (given_of given.now) ≡ Some span }
     ensures columns { HasColumns result }
-    ensures asked { IsSeriesAsked name.now (given_of given.now) on_terminal result }
+    ensures asked { IsSeriesAsked name.now (given_of given.now) result }
 {
-    match series_in(name, given, on_terminal, span) {
+    match series_in(name, given, span) {
         Ok(series) => Asked::Series(series),
         Err(Wrong::Unfit(message)) => Asked::Unfit(message),
         Err(Wrong::Missing) => Asked::NoMemory,
     }
 }
 
-fn series_in<'a>(
-    name: &str,
-    given: &ArgMatches<'a>,
-    on_terminal: bool,
-    span: Span,
-) -> Result<Series<'a>, Wrong>
+fn series_in<'a>(name: &str, given: &ArgMatches<'a>, span: Span) -> Result<Series<'a>, Wrong>
     requires { span_for name.now (given_of given.now) ≡ Some span }
-    ensures given { IfOk result (IsSeriesBy name.now (given_of given.now) on_terminal) }
+    ensures given { IfOk result (IsSeriesBy name.now (given_of given.now)) }
     ensures fault { IfErr result
         (IsToldInstead (lacks_names (given_of given.now) || lacks (given_of given.now) (codes "ANSWER"))
         (series_fault name.now (given_of given.now))) }
@@ -166,6 +188,6 @@ fn series_in<'a>(
         jobs,
         span,
         told,
-        explain: is_explained(given, on_terminal),
+        json: given.get_flag("json"),
     })
 }

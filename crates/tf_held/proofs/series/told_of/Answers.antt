@@ -38,5 +38,5 @@ returns c = (
       c.in_ok-status.status _ _ _ c.in_ok-status.ensures
       (sym c.has_told.ensures ∙ c.if-has_told.false)
       (c.as_slice-errors.ensures.value ∙ ap (λ v. v.items) c.inner.ensures),
-  c.in_ok-said_of.ensures,
+  c.in_ok-said_for.ensures,
 )

@@ -22,7 +22,7 @@ told_next-requires-clause-parts g c =
 pub behind-requires-clause-there : goal.behind-requires-clause-there
 behind-requires-clause-there g c =
     let tells = rw c.in-Some.is at c.in_ok-kept.ensures in
-    runs_has c.args.series.now c.args.instance.now c.next_answer.result.0.now _ tells.0 _ tells.1
+    runs_has c.args.series.now c.args.instance.now c.next_for.result.0.now _ tells.0 _ tells.1
     tells.3 tells.2
 
 pub behind-requires-clause-parts : goal.behind-requires-clause-parts
@@ -34,15 +34,15 @@ behind-requires-clause-parts g c =
 pub loop-step-preserved : goal.loop-step-preserved
 loop-step-preserved g c = record {
   told = gone_on c.args.series.now c.args.instance.now c.args.answers.now c.loop-step.rest.now
-      c.loop-step.step _ c.next_answer.result.0.now c.next_answer.result.1.now _
+      c.loop-step.step _ c.next_for.result.0.now c.next_for.result.1.now _
       (g.W.Write.contents (inner_of c.args.writer.now))
       (g.W.Write.contents (inner_of c.loop-step.writer))
       (g.W.Write.contents (inner_of c.write_entry.new.writer))
       c.loop-step.invariant.told (ap (λ n. n + c.loop-step.step) c.from-first.ensures)
-      (entry_of c.args.series.now c.args.instance.now c.next_answer.result.0.now _ c.in-Some.kept
-      c.as_slice.result.now (rw c.in-Some.is at c.in_ok-kept.ensures)
-      (c.as_slice.ensures.value ∙ ap (λ v. v.items) c.inner.ensures))
-      (record { whole = c.next_answer.ensures.whole; after = c.next_answer.ensures.after })
+      (entry_of c.args.series.now c.args.instance.now c.next_for.result.0.now _ c.in-Some.kept
+      c.as_slice-text.result.now (rw c.in-Some.is at c.in_ok-kept.ensures)
+      (c.as_slice-text.ensures.value ∙ ap (λ v. v.items) c.inner.ensures))
+      c.next_for.ensures
       c.in_ok-write_entry-in-Some.ensures.written;
   known =
       let next : c.from-first.result + c.loop-step.step
@@ -60,10 +60,10 @@ returns g c =
 pub returns-in-None : goal.returns-in-None
 returns-in-None g c =
     come_to_end c.args.series.now c.args.instance.now c.args.answers.now c.loop-step.rest.now
-    c.next_answer.result.0.now c.next_answer.result.1.now c.loop-step.step _
+    c.next_for.result.0.now c.next_for.result.1.now c.loop-step.step _
     (use_of g.W.Write.contents c.args.writer.now c.loop-step.writer) c.loop-step.invariant.told
     (ap (λ n. n + c.loop-step.step) c.from-first.ensures)
-    (record { whole = c.next_answer.ensures.whole; after = c.next_answer.ensures.after })
+    c.next_for.ensures
     (rw c.in-None.is at c.in_ok-kept.ensures)
 
 pub returns-in_err-kept : goal.returns-in_err-kept
@@ -71,10 +71,10 @@ returns-in_err-kept g c =
     let stops : WritesUntil c.args.series.now c.args.instance.now c.args.answers.now
     (use_of g.W.Write.contents c.args.writer.now c.loop-step.writer) c.in_err-kept.field-0.0 =
     stopped c.args.series.now c.args.instance.now c.args.answers.now c.loop-step.rest.now
-    c.next_answer.result.0.now c.next_answer.result.1.now c.loop-step.step _
+    c.next_for.result.0.now c.next_for.result.1.now c.loop-step.step _
     (use_of g.W.Write.contents c.args.writer.now c.loop-step.writer) c.in_err-kept.field-0.0
     c.loop-step.invariant.told (ap (λ n. n + c.loop-step.step) c.from-first.ensures) (omega arith)
-    (record { whole = c.next_answer.ensures.whole; after = c.next_answer.ensures.after })
+    c.next_for.ensures
     c.in_err-kept.ensures in
     search rules
 
@@ -84,15 +84,15 @@ returns-in_err-write_entry-in-Some g c =
     (use_of g.W.Write.contents c.args.writer.now c.write_entry.new.writer)
     c.in_err-write_entry-in-Some.field-0.0 =
     cut_off c.args.series.now c.args.instance.now c.args.answers.now c.loop-step.rest.now
-    c.next_answer.result.0.now c.next_answer.result.1.now _ c.loop-step.step _
+    c.next_for.result.0.now c.next_for.result.1.now _ c.loop-step.step _
     (g.W.Write.contents (inner_of c.loop-step.writer))
     (use_of g.W.Write.contents c.args.writer.now c.write_entry.new.writer)
     c.in_err-write_entry-in-Some.field-0.0 c.loop-step.invariant.told
     (ap (λ n. n + c.loop-step.step) c.from-first.ensures)
     (omega arith)
-    (record { whole = c.next_answer.ensures.whole; after = c.next_answer.ensures.after })
-    (entry_of c.args.series.now c.args.instance.now c.next_answer.result.0.now _ c.in-Some.kept
-    c.as_slice.result.now (rw c.in-Some.is at c.in_ok-kept.ensures)
-    (c.as_slice.ensures.value ∙ ap (λ v. v.items) c.inner.ensures))
+    c.next_for.ensures
+    (entry_of c.args.series.now c.args.instance.now c.next_for.result.0.now _ c.in-Some.kept
+    c.as_slice-text.result.now (rw c.in-Some.is at c.in_ok-kept.ensures)
+    (c.as_slice-text.ensures.value ∙ ap (λ v. v.items) c.inner.ensures))
     c.in_err-write_entry-in-Some.ensures.unwritten in
     search rules
