@@ -58,6 +58,7 @@ def checks(program):
         ("an independent checker", [python, "bench/compare_verify.py", program, "1", "1500"], None),
         ("an independent checker of bounds", [python, "bench/compare_bounds.py", program], None),
         ("the same status with --explain", [python, "bench/same_status.py", program], None),
+        ("ranges beside their instances", [python, "bench/ranges.py", program, "1", "1500"], None),
         ("LaTeX of the traces", [python, "bench/latex.py", program], ("pdflatex pdftotext", "texlive-latex-base poppler-utils")),
         ("the page's modules", ["node", "--test", *sorted(glob.glob("web/*_test.mjs", root_dir=TOP))], ("node", "nodejs")),
         ("the page and LibreOffice", ["node", "--test", "web/office.mjs"], ("node soffice", "nodejs libreoffice-calc-nogui")),
