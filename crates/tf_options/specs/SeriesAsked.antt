@@ -1,12 +1,12 @@
 -- What is asked for of several instances of a weighted tardiness file.
-use Rattle.std.specs.Prelude.{◌≡◌, ◌⊎◌, ℕ, Bool, true, false, ◌&&◌, ◌||◌, ◌==◌, nat_lt, List, Option, None, Some, IsTrue, is_some, option_map, codes, if◌then◌else◌}
+use Rattle.std.specs.Prelude.{◌≡◌, ◌⊎◌, ℕ, Bool, true, false, not, ◌&&◌, ◌||◌, ◌==◌, nat_lt, List, Option, None, Some, IsTrue, is_some, option_map, codes, if◌then◌else◌}
 use Rattle.std.specs.List.{before_first, after_first}
 use Rattle.std.specs.Option.{option_and_then}
 use Rattle.std.specs.Str.{bytes_eq}
 use Rattle.tf_model.specs.Limit.{most_jobs, most_machines}
 use Rattle.tf_options.specs.OptionNumber.{numeral_in}
 use Rattle.tf_options.specs.Matched.{Given, IsFlagBy, IsNumberBy, first_fault, is_word, lacks, machines_fault, most_steps, number_by, steps_fault, unless_some}
-use Rattle.tf_options.specs.Understood.{rule_by}
+use Rattle.tf_options.specs.Understood.{answer_fault, rule_by}
 use Rattle.tf_options.specs.declared.options.Asked.{Asked}
 use Rattle.tf_options.specs.declared.options.Asked.TheVariants as asking
 use Rattle.tf_asked.specs.declared.series.Series.{Series}
@@ -102,14 +102,6 @@ jobs_fault given =
     unless_some (codes "--format wt needs --jobs, a number from 1 to 100000")
     (number_by given (codes "jobs") 1 most_jobs)
 
--- both the instances and the answers are standard input
-abbrev pub answers_fault : Given → Option (List ℕ)
-answers_fault given =
-    if is_word (given.value (codes "ANSWER")) (codes "-")
-    && is_word (given.value (codes "INPUT")) (codes "-")
-    then Some (codes "INPUT and ANSWER cannot both be standard input")
-    else None
-
 -- both the instances and the orders are standard input
 abbrev pub lines_fault : Given → Option (List ℕ)
 lines_fault given =
@@ -124,7 +116,7 @@ each_fault given =
     if is_some (given.value (codes "rule")) then steps_fault given
     else first_fault (lines_fault given)
     (if is_some (given.value (codes "orders")) then steps_fault given
-    else first_fault (answers_fault given) (steps_fault given))
+    else first_fault (answer_fault given) (steps_fault given))
 
 abbrev pub told_fault : List ℕ → Given → Option (List ℕ)
 told_fault name given =
@@ -139,11 +131,18 @@ series_fault name given =
 abbrev pub lacks_names : Given → Bool
 lacks_names given = lacks given (codes "problem") || lacks given (codes "INPUT")
 
+-- an answer is evaluated, and clap gave none
+abbrev pub lacks_answers : List ℕ → Given → Bool
+lacks_answers name given =
+    bytes_eq name (codes "evaluate")
+    && (not (is_some (given.value (codes "rule")) || is_some (given.value (codes "orders")))
+    && lacks given (codes "ANSWER"))
+
 -- the instances of which the command of this name tells a line each, the first fault of its values, or
 -- want of memory where clap gave too little
 abbrev pub IsSeriesAsked : List ℕ → Given → Asked → Type 0
 IsSeriesAsked name given (asking.Series series) = IsSeriesBy name given series
 IsSeriesAsked name given (asking.Unfit message) = series_fault name given ≡ Some message.now
 IsSeriesAsked name given asking.NoMemory =
-    IsTrue (lacks_names given || lacks given (codes "ANSWER"))
+    IsTrue (lacks_names given || lacks_answers name given)
 IsSeriesAsked name given _ = ⊥

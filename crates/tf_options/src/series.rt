@@ -5,10 +5,11 @@ ghost use Rattle.tf_model.specs.Limit.{most_jobs};
 ghost use Rattle.tf_options.specs.Columns.{HasColumns};
 ghost use Rattle.tf_options.specs.Matched.{IsToldInstead, given_of, lacks, number_by};
 ghost use Rattle.tf_options.specs.SeriesAsked.{AsksMore, IsLineEach, IsSeriesAsked, IsSeriesBy, IsToldBy};
-ghost use Rattle.tf_options.specs.SeriesAsked.{answers_fault, jobs_fault};
+ghost use Rattle.tf_options.specs.SeriesAsked.{jobs_fault, lacks_answers};
 ghost use Rattle.tf_options.specs.SeriesAsked.{lacks_names, lines_fault, series_fault};
 ghost use Rattle.tf_options.specs.SeriesAsked.{span_between, span_for, span_in, span_of};
 ghost use Rattle.tf_options.specs.SeriesAsked.{takes_span, told_fault};
+ghost use Rattle.tf_options.specs.Understood.{answer_fault};
 
 use crate::aids::is_standard_input;
 use crate::options::{Asked, machines_in, number_within, rule_by, steps_in};
@@ -93,9 +94,9 @@ fn jobs_in(given: &ArgMatches<'_>) -> Result<u32, Wrong>
 // The name of the answers, which cannot be standard input beside the instances.
 fn answers_in<'a>(given: &ArgMatches<'a>) -> Result<&'a str, Wrong>
     ensures given { IfOk result (λ name. (given_of given.now).value (codes "ANSWER") ≡ Some name.now) }
-    ensures unhurt { IfOk result (λ _. answers_fault (given_of given.now) ≡ None) }
+    ensures unhurt { IfOk result (λ _. answer_fault (given_of given.now) ≡ None) }
     ensures fault { IfErr result (IsToldInstead (lacks (given_of given.now) (codes "ANSWER"))
-        (answers_fault (given_of given.now))) }
+        (answer_fault (given_of given.now))) }
 {
     let Some(answer) = given.get_str("ANSWER") else {
         return Err(Wrong::Missing);
@@ -123,7 +124,7 @@ fn lines_in<'a>(given: &ArgMatches<'a>) -> Result<Option<&'a str>, Wrong>
 fn told_in<'a>(name: &str, given: &ArgMatches<'a>) -> Result<Told<'a>, Wrong>
     requires { takes_span name.now ≡ true }
     ensures given { IfOk result (IsToldBy name.now (given_of given.now)) }
-    ensures fault { IfErr result (IsToldInstead (lacks (given_of given.now) (codes "ANSWER"))
+    ensures fault { IfErr result (IsToldInstead (lacks_answers name.now (given_of given.now))
         (told_fault name.now (given_of given.now))) }
 {
     if name == "solve" {
@@ -172,7 +173,7 @@ fn series_in<'a>(name: &str, given: &ArgMatches<'a>, span: Span) -> Result<Serie
     requires { span_for name.now (given_of given.now) ≡ Some span }
     ensures given { IfOk result (IsSeriesBy name.now (given_of given.now)) }
     ensures fault { IfErr result
-        (IsToldInstead (lacks_names (given_of given.now) || lacks (given_of given.now) (codes "ANSWER"))
+        (IsToldInstead (lacks_names (given_of given.now) || lacks_answers name.now (given_of given.now))
         (series_fault name.now (given_of given.now))) }
 {
     let (Some(problem), Some(input)) = (given.get_str("problem"), given.get_str("INPUT")) else {
