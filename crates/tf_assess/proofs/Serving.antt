@@ -5,7 +5,9 @@ use Rattle.std.specs.Prelude.{is_none, is_some, unwrap_or, if◌then◌else◌}
 use Rattle.std.specs.Option.{option_map, option_or}
 use Rattle.std.proofs.lemmas.Bool.{false≢true, and_parts}
 use Rattle.tf_model.specs.Outcome.{◌>>=◌, unless}
+use Rattle.tf_model.specs.CostLaws.{none_of_two}
 use Rattle.tf_model.specs.Whole.{as_time}
+use Rattle.tf_model.proofs.Prepared.{none_mapped}
 use Rattle.tf_model.specs.JobFields.{JobFields}
 use Rattle.tf_model.specs.InstanceData.{InstanceData, first_with}
 use Rattle.tf_model.specs.declared.problem.Problem.{Problem}
@@ -50,15 +52,6 @@ lacks_no_more true true true x more less h next e = absurd (cc)
 lacks_no_more true true false x more less h next e = next e
 lacks_no_more false true lacks x more less h next e = absurd (false≢true h)
 
-both_none : {X : Type 0} (one other : Option X) → option_or one other ≡ None
-    → (one ≡ None) × (other ≡ None)
-both_none None other e = (refl, e)
-both_none (Some x) other e = absurd (cc)
-
-none_mapped : {X Y : Type 0} (f : X → Y) (x : Option X) → option_map f x ≡ None → x ≡ None
-none_mapped f None e = refl
-none_mapped f (Some x) e = absurd (cc)
-
 twice : {X : Type 0} (poor rich : Bool) (x y : X) → IsTrue (not poor || rich)
     → cond poor x y ≡ cond poor (cond rich x y) y
 twice false rich x y h = refl
@@ -97,7 +90,7 @@ module _ (p : Problem) (rich goal : Goal) (h : IsTrue (serves rich goal)) where
       → missing_in (by_goal p goal) j jobs ≡ None
   missing j [] e = refl
   missing j (job ∷ jobs) e =
-      let parts = both_none (option_map (MissingField j) (lacking_in (by_goal p rich) job))
+      let parts = none_of_two (option_map (MissingField j) (lacking_in (by_goal p rich) job))
       (missing_in (by_goal p rich) (j + 1) jobs) e in
       rw (lacking job (none_mapped (MissingField j) (lacking_in (by_goal p rich) job) parts.0))
       (missing (j + 1) jobs parts.1)
@@ -133,9 +126,9 @@ module _ (p : Problem) (rich goal : Goal) (h : IsTrue (serves rich goal)) where
       → jobs_refusal_in (by_goal p goal) t ≡ None
   plain_unrefused t e =
       let behind : Option Refusal = where_needed p (idle_in t.by_machine 0 t.instance.jobs) in
-      let wrong = both_none (wrong_times_in p (is_some t.by_machine) t.instance.jobs)
+      let wrong = none_of_two (wrong_times_in p (is_some t.by_machine) t.instance.jobs)
       (option_or (missing_in (by_goal p rich) 1 t.instance.jobs) behind) e in
-      let lack = both_none (missing_in (by_goal p rich) 1 t.instance.jobs) behind wrong.1 in
+      let lack = none_of_two (missing_in (by_goal p rich) 1 t.instance.jobs) behind wrong.1 in
       rw (wrong.0, missing 1 t.instance.jobs lack.0) lack.1
 
   plain_for : (t : TimedData) (argument : Option ℕ) (k : ProblemData)
@@ -162,9 +155,9 @@ module _ (p : Problem) (rich goal : Goal) (h : IsTrue (serves rich goal)) where
       let behind : Option Refusal =
       option_or (where_needed p (option_map ZeroTime (first_with is_idle_route routes)))
       (much_in machines routes) in
-      let wrong = both_none (option_map WrongTimes (first_with (is_beyond machines) routes))
+      let wrong = none_of_two (option_map WrongTimes (first_with (is_beyond machines) routes))
       (option_or (missing_in (by_goal p rich) 1 jobs) behind) e in
-      let lack = both_none (missing_in (by_goal p rich) 1 jobs) behind wrong.1 in
+      let lack = none_of_two (missing_in (by_goal p rich) 1 jobs) behind wrong.1 in
       rw (wrong.0, missing 1 jobs lack.0) lack.1
 
   routed_for : (routes : List (List Step)) (i : InstanceData) (argument : Option ℕ)

@@ -32,7 +32,7 @@ impl Json {
         self.uncertified(alloc, line, next)
     }
 
-    /// Adds what a line of an answer says, but for its certificate.
+    /// Adds what a line of an answer says, unless it is its certificate.
     fn uncertified(&mut self, alloc: Global, line: &[u8], next: &[u8]) -> Result<(), OutOfMemory>
         ensures { OnOk result
             (Adds self.old self.new (uncertified (words line.now) (words next.now))) }

@@ -34,7 +34,7 @@ use Rattle.tf_model.proofs.Costs.{sum_by-all_jobs}
 
 -- ---- what an absent fault says
 
-none_mapped : {A B : Type 0} (f : A → B) (o : Option A) → option_map f o ≡ None → o ≡ None
+pub none_mapped : {A B : Type 0} (f : A → B) (o : Option A) → option_map f o ≡ None → o ≡ None
 none_mapped f (Some x) e = cc
 none_mapped f None e = refl
 
@@ -42,7 +42,7 @@ not_then : {A : Type 0} (b : Bool) (x : A) → then_some b x ≡ None → b ≡ 
 not_then true x e = cc
 not_then false x e = refl
 
-neither : (a b : Bool) → (a || b) ≡ false → (a ≡ false) × (b ≡ false)
+pub neither : (a b : Bool) → (a || b) ≡ false → (a ≡ false) × (b ≡ false)
 neither true b e = cc
 neither false b e = (refl, e)
 
@@ -53,7 +53,7 @@ not_both false b e t = cc
 not_below : (n : ℕ) → ltb n 1 ≡ false → 1 ≤ n
 not_below n e = ltb-false n 1 e
 
-none_at : {X : Type 0} (p : X → Bool) (xs : List X) → position p xs ≡ None
+pub none_at : {X : Type 0} (p : X → Bool) (xs : List X) → position p xs ≡ None
     → All (λ x. p x ≡ false) xs
 none_at p xs e k d h =
     fails_before_first p xs k d

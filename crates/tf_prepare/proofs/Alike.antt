@@ -2,12 +2,11 @@
 use Rattle.std.specs.Prelude.{unwrap_or, is_none, if◌then◌else◌}
 use Rattle.std.specs.Bool.{then_some}
 use Rattle.std.specs.Option.{option_map, option_or, ok_or}
-use Rattle.std.specs.List.{position_or_len, range_with_len}
-use Rattle.std.proofs.Common.{◌≡◌, Bool, true, false, not, ◌&&◌, ◌||◌, ℕ, zero, suc, ◌+◌, ◌-◌, ◌≤◌, ltb, eqb, ℤ, pos, negsuc, int_lt, List, [], ◌∷◌, length, slice_index_or, position, map, cond, Option, None, Some, Result, Ok, Err, refl, sym, ap, ◌∙◌, subst, arith, All}
-use Rattle.std.proofs.lemmas.Bool.{false≢true, ltb-false, cond-false, ne_eqb}
+use Rattle.std.specs.List.{range_with_len}
+use Rattle.std.proofs.Common.{◌≡◌, Bool, true, false, not, ◌&&◌, ◌||◌, ℕ, zero, suc, ◌+◌, ◌-◌, ltb, eqb, ℤ, pos, negsuc, int_lt, List, [], ◌∷◌, length, slice_index_or, map, cond, Option, None, Some, Result, Ok, Err, refl, sym, ap, ◌∙◌, subst, arith, All}
+use Rattle.std.proofs.lemmas.Bool.{false≢true, cond-false, ne_eqb}
 use Rattle.std.proofs.lemmas.List.{length-map}
 use Rattle.std.proofs.lemmas.List.Elements.{All-head, All-tail}
-use Rattle.std.proofs.lemmas.List.Sums.{fails_before_first}
 use Rattle.tf_model.specs.declared.class.Class.{Class}
 use Rattle.tf_model.specs.declared.problem.Goal.{Goal}
 use Rattle.tf_model.specs.declared.problem.Goal.TheVariants as goals
@@ -29,7 +28,7 @@ use Rattle.tf_model.specs.ClassTable.{notation_of, IsOfClass, class_of, is_shop,
 use Rattle.tf_model.specs.Prepare.{agreed, given, is_too_many, machines_for, has_two, has_wrong_times, lacking, missing_from, has_zero_time, zero_time, first_time, second_time, data_of, task_of, is_too_large, jobs_refusal}
 use Rattle.tf_model.proofs.Outcomes.{bind_ok}
 use Rattle.tf_model.proofs.OfClass.{determined}
-use Rattle.tf_model.proofs.Prepared.{times_right}
+use Rattle.tf_model.proofs.Prepared.{none_at, none_mapped, times_right}
 use Rattle.tf_problem.specs.ProblemData.{ProblemData, ProblemJobData, is_job_shop, needs_time}
 use Rattle.tf_problem.specs.Agreement.{posed, posed_job}
 use Rattle.tf_problem.proofs.Conditions.{no_job_shop, no_need}
@@ -57,21 +56,6 @@ dues goals.Lmax known = refl
 dues _ known = refl
 
 -- ---- what an absent fault says
-
-none_mapped : {A B : Type 0} (f : A → B) (o : Option A) → option_map f o ≡ None → o ≡ None
-none_mapped f (Some x) e = cc
-none_mapped f None e = refl
-
-none_at : {X : Type 0} (p : X → Bool) (xs : List X) → position p xs ≡ None
-    → All (λ x. p x ≡ false) xs
-none_at p xs e k d h =
-    fails_before_first p xs k d
-    (omega (arith, h, beyond (ltb (position_or_len p xs) (length xs)) refl e))
-  where
-    beyond : (b : Bool) → ltb (position_or_len p xs) (length xs) ≡ b
-        → cond b (Some (position_or_len p xs)) None ≡ None → length xs ≤ position_or_len p xs
-    beyond true is e = cc
-    beyond false is e = ltb-false _ _ is
 
 either_none : {X : Type 0} (b : Bool) (o : Option X) → o ≡ None → cond b o None ≡ None
 either_none true o e = e

@@ -1,13 +1,13 @@
 -- The routes of all jobs.
-use Rattle.std.proofs.Common.{◌≡◌, ℕ, zero, suc, ◌+◌, ◌<◌, ◌≤◌, Bool, true, false, ◌||◌, cond, ltb, drop, List, [], ◌∷◌, ◌++◌, length, get_or, Option, Some, None, refl, sym, ap, subst, ◌∙◌, arith, append_assoc}
-use Rattle.std.specs.List.{All, position, position_or_len}
+use Rattle.std.proofs.Common.{◌≡◌, ℕ, zero, suc, ◌+◌, ◌<◌, false, cond, drop, List, [], ◌∷◌, ◌++◌, length, get_or, None, sym, ap, subst, ◌∙◌, arith, append_assoc}
+use Rattle.std.specs.List.{All}
 use Rattle.std.specs.Option.{option_map, option_or}
 use Rattle.std.proofs.Math.Seq.{drop-cons}
-use Rattle.std.proofs.lemmas.Bool.{leb-false, ltb-false}
-use Rattle.std.proofs.lemmas.List.Sums.{fails_before_first}
+use Rattle.std.proofs.lemmas.Bool.{leb-false}
 use Rattle.tf_model.specs.CostLaws.{none_of_two}
 use Rattle.tf_model.specs.InstanceData.{InstanceData, first_with}
 use Rattle.tf_model.specs.JobFields.{JobFields}
+use Rattle.tf_model.proofs.Prepared.{neither, none_at, none_mapped}
 use Rattle.tf_model.specs.declared.prepare.Refusal.TheVariants.{WrongTimes, ZeroTime}
 use Rattle.tf_model.specs.declared.problem.Problem.{Problem}
 use Rattle.tf_model.specs.Limit.{most_machines}
@@ -52,32 +52,12 @@ row_more p m routes jobs k route job times visited row rows after count h of_job
 
 -- ---- no route names a machine beyond
 
-neither : (a b : Bool) → (a || b) ≡ false → (a ≡ false) × (b ≡ false)
-neither true b e = cc
-neither false b e = (refl, e)
-
 steps_within : (m : ℕ) (route : List Step) → is_beyond m route ≡ false
     → (k : ℕ) (d : Step) → k < length route → (get_or route k d).machine < m
 steps_within m [] e k d lt = absurd (omega (arith, lt))
 steps_within m (step ∷ route) e zero d lt = leb-false m step.machine (neither _ _ e).0
 steps_within m (step ∷ route) e (suc k) d lt =
     steps_within m route (neither _ _ e).1 k d (omega (arith, lt))
-
-none_mapped : {A B : Type 0} (f : A → B) (o : Option A) → option_map f o ≡ None → o ≡ None
-none_mapped f (Some x) e = cc
-none_mapped f None e = refl
-
-none_at : {X : Type 0} (p : X → Bool) (xs : List X) → position p xs ≡ None
-    → All (λ x. p x ≡ false) xs
-none_at p xs e k d h =
-    fails_before_first p xs k d
-    (omega (arith, h, beyond (ltb (position_or_len p xs) (length xs)) refl e))
-  where
-    beyond : (b : Bool) → ltb (position_or_len p xs) (length xs) ≡ b
-        → cond b (Some (position_or_len p xs)) None ≡ None
-        → length xs ≤ position_or_len p xs
-    beyond true is e = cc
-    beyond false is e = ltb-false (position_or_len p xs) (length xs) is
 
 -- where the routes are not refused, each is of the machines
 pub routes_within : (p : Problem) (m : ℕ) (jobs : List JobFields) (routes : List (List Step))
