@@ -17,9 +17,9 @@ use Rattle.tf_model.specs.declared.problem.Env.TheVariants.{Single, Parallel, Un
 use Rattle.tf_model.specs.declared.problem.Goal.{Goal}
 use Rattle.tf_model.specs.declared.problem.Goal.TheVariants as goals
 use Rattle.tf_model.proofs.Sums.{sum_by-same}
-use Rattle.tf_problem.specs.ProblemData.{ProblemData, ProblemJobData, no_problem_job, route_by}
-use Rattle.tf_problem.specs.FitsProblem.{FitsProblem, HasProblemTime, IsProblemUnbroken, IsProblemReleased, IsOnRoute, VisitsFirst, IsInOneOrder, IsWithoutWait}
-use Rattle.tf_problem.specs.ProblemCost.{lateness, tardiness, unit_penalty, problem_cost_by}
+use Rattle.tf_posed.specs.ProblemData.{ProblemData, ProblemJobData, no_problem_job, route_by}
+use Rattle.tf_posed.specs.FitsProblem.{FitsProblem, HasProblemTime, IsProblemUnbroken, IsProblemReleased, IsOnRoute, VisitsFirst, IsInOneOrder, IsWithoutWait}
+use Rattle.tf_posed.specs.ProblemCost.{lateness, tardiness, unit_penalty, problem_cost_by}
 use Rattle.tf_prepare.specs.Preparing.{uses_weight, uses_due}
 use Rattle.tf_schedule.specs.declared.piece.Piece.{Piece}
 use Rattle.tf_schedule.specs.declared.fit.Misfit.{Misfit}

@@ -2,8 +2,8 @@
 use Rattle.std.proofs.Common.{◌≡◌, ℤ, Option, SFits, to_z, of_z, None, inl, inr, refl, sym, ap, subst, ◌∙◌}
 use Rattle.std.specs.Int.{w128}
 use Rattle.std.proofs.lemmas.Int.{to_z-of_z}
-use Rattle.tf_problem.specs.ProblemData.{ProblemData}
-use Rattle.tf_problem.specs.ProblemCost.{IsLowerBound}
+use Rattle.tf_posed.specs.ProblemData.{ProblemData}
+use Rattle.tf_posed.specs.ProblemCost.{IsLowerBound}
 use Rattle.tf_bound.specs.Certified.{IsBoundBy, IsFaultBy, IsValueOn}
 use Rattle.tf_bound.specs.Faulted.{certificate_fault}
 use Rattle.tf_bound.specs.declared.fault.BoundFault.{BoundFault}

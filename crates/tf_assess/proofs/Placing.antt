@@ -6,8 +6,8 @@ use Rattle.std.specs.List.Sorted.{IsPermutation}
 use Rattle.std.proofs.lemmas.Bool.{and_from}
 use Rattle.std.proofs.lemmas.List.Elements.{All-weaker}
 use Rattle.tf_model.specs.declared.problem.Goal.{Goal}
-use Rattle.tf_problem.specs.ProblemData.{ProblemData}
-use Rattle.tf_problem.specs.ProblemCost.{problem_cost, problem_cost_by}
+use Rattle.tf_posed.specs.ProblemData.{ProblemData}
+use Rattle.tf_posed.specs.ProblemCost.{problem_cost, problem_cost_by}
 use Rattle.tf_prepare.specs.Preparing.{uses_weight, uses_due, prepared_in}
 use Rattle.tf_schedule.specs.declared.piece.Piece.{Piece}
 use Rattle.tf_schedule.specs.declared.schedule.PieceFault.{PieceFault}

@@ -7,7 +7,7 @@ use Rattle.tf_model.specs.Outcome.{◌>>=◌}
 use Rattle.tf_notation.specs.Reading.{notation}
 use Rattle.tf_text.specs.declared.counted.Counted.{Counted}
 use Rattle.tf_text.specs.Counted.{inner_of, has_failed, use_of}
-use Rattle.tf_problem.specs.ProblemData.{ProblemData, is_covered}
+use Rattle.tf_posed.specs.ProblemData.{ProblemData, is_covered}
 use Rattle.tf_prepare.specs.Preparing.{prepared_in}
 use Rattle.tf_prepare.specs.TimedData.{TimedData}
 use Rattle.tf_engine.specs.declared.fault.RunFault.{RunFault}

@@ -16,7 +16,7 @@ use Rattle.tf_model.specs.declared.prepare.Field.{Field}
 use Rattle.tf_model.specs.declared.prepare.Field.TheVariants.{Weight, Due, Release}
 use Rattle.tf_model.specs.declared.prepare.Refusal.{Refusal}
 use Rattle.tf_model.specs.declared.prepare.Refusal.TheVariants.{WrongTimes, MissingField, ZeroTime}
-use Rattle.tf_problem.specs.ProblemData.{ProblemData, ProblemJobData, is_job_shop}
+use Rattle.tf_posed.specs.ProblemData.{ProblemData, ProblemJobData, is_job_shop}
 use Rattle.tf_routes.specs.declared.route.Step.{Step}
 use Rattle.tf_prepare.specs.TimedData.{TimedData}
 use Rattle.tf_prepare.specs.Preparing.{uses_weight, uses_due, lacking_in, missing_in, wrong_times_in, where_needed, idle_in, jobs_refusal_in, times_in, job_in, jobs_in, task_in, machines_in, plain_in, routed_machines_in, routes_refusal_in, routed_jobs_in, routed_task_in, routed_in, prepared_by, prepared_in, times_by, machines_of, is_beyond, is_idle_route, much_in}

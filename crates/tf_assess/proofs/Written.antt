@@ -6,7 +6,7 @@ use Rattle.std.specs.Fmt.{decimal}
 use Rattle.tf_notation.specs.Canonical.{canonical}
 use Rattle.tf_text.specs.AnswerText.{line_text}
 use Rattle.tf_text.proofs.Written.{then}
-use Rattle.tf_problem.specs.ProblemData.{ProblemData}
+use Rattle.tf_posed.specs.ProblemData.{ProblemData}
 use Rattle.tf_assess.specs.declared.assessment.Assessment.{Assessment}
 use Rattle.tf_evaluate.specs.EvaluationText.{claimed_lines, outcome_words}
 use Rattle.tf_assess.specs.Assessing.{value_in, best_in}

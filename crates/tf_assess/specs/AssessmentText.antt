@@ -3,7 +3,7 @@ use Rattle.std.specs.Prelude.{ℕ, ◌+◌, ℤ, ◌-ℤ◌, unsigned_abs, List,
 use Rattle.std.specs.List.{flat_map}
 use Rattle.std.specs.Fmt.{decimal, signed_decimal}
 use Rattle.tf_notation.specs.Canonical.{canonical}
-use Rattle.tf_problem.specs.ProblemData.{ProblemData}
+use Rattle.tf_posed.specs.ProblemData.{ProblemData}
 use Rattle.tf_text.specs.AnswerText.{line_text}
 use Rattle.tf_engine.specs.VerdictLine.{piece_fault_words, misfit_words}
 use Rattle.tf_fit.specs.declared.misfit.ProblemMisfit.{ProblemMisfit}

@@ -7,7 +7,7 @@ use Rattle.tf_model.specs.declared.problem.Problem.{Problem}
 use Rattle.tf_model.specs.declared.problem.Goal.{Goal}
 use Rattle.tf_model.specs.declared.problem.Goal.TheVariants as goals
 use Rattle.tf_notation.specs.Reading.{notation}
-use Rattle.tf_problem.specs.ProblemData.{ProblemData}
+use Rattle.tf_posed.specs.ProblemData.{ProblemData}
 use Rattle.tf_prepare.specs.TimedData.{TimedData}
 use Rattle.tf_prepare.specs.Preparing.{prepared_in, PreparesIn}
 use Rattle.tf_schedule.specs.declared.piece.Piece.{Piece}

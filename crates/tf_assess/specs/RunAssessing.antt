@@ -1,7 +1,7 @@
 -- What an assessment of an answer text leaves behind.
 use Rattle.std.specs.Prelude.{◌≡◌, ℕ, ◌⊎◌, true, List, length, Option, Result, Ok, Err, IsOk, MatchResult}
 use Rattle.std.specs.Io.KnownBytes.{Appends}
-use Rattle.tf_problem.specs.ProblemData.{ProblemData}
+use Rattle.tf_posed.specs.ProblemData.{ProblemData}
 use Rattle.tf_text.specs.declared.counted.Counted.{Counted}
 use Rattle.tf_text.specs.Counted.{DeviceUse, inner_of, use_of}
 use Rattle.tf_text.specs.Input.{IsTextOf}

@@ -1,6 +1,6 @@
 //! What happens to each job of any problem.
 ghost use Rattle.std.specs.Prelude.{◌≡◌, map, IfOk};
-ghost use Rattle.tf_problem.specs.ProblemData.{IsProblemJob, problem_jobs};
+ghost use Rattle.tf_posed.specs.ProblemData.{IsProblemJob, problem_jobs};
 ghost use Rattle.tf_evaluate.specs.Outcomes.{outcome_on};
 ghost use Rattle.tf_assess.specs.Assessing.{counted_by};
 

@@ -12,10 +12,10 @@ use Rattle.tf_model.specs.SchedulingTask.{JobData}
 use Rattle.tf_model.specs.Bounds.{pairs_value}
 use Rattle.tf_model.proofs.Sums.{sum_by-plus, sum_by-times, sum_by-same, sum_by-same_all}
 use Rattle.tf_check.specs.Bound.{least_number}
-use Rattle.tf_problem.specs.ProblemData.{ProblemData, IsProblemJob, problem_jobs, problem_time, problem_time_on, problem_release}
+use Rattle.tf_posed.specs.ProblemData.{ProblemData, IsProblemJob, problem_jobs, problem_time, problem_time_on, problem_release}
 use Rattle.tf_problem.specs.ProblemBounds.{arcs_gain, head, moved, numerator, owed_dues, share_up, tail, any_multiplier_value, arc_multiplier_value, shared_multiplier_value}
 use Rattle.tf_problem.specs.Relaxed.{weighed_task, only_time}
-use Rattle.tf_problem.proofs.Relaxing.{All-problem_jobs}
+use Rattle.tf_posed.proofs.Conditions.{All-problem_jobs}
 use Rattle.tf_bound.specs.Faulted.{all_counted, come_to, first_start, is_wide, least_by, timed_machine, wait_from, waits_from}
 
 -- ---- the same value

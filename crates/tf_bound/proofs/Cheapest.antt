@@ -4,8 +4,8 @@ use Rattle.std.proofs.lemmas.Bool.{false≢true, le-ltb}
 use Rattle.tf_model.specs.Limit.{limit}
 use Rattle.tf_model.specs.declared.problem.Goal.{Goal}
 use Rattle.tf_model.specs.declared.problem.Goal.TheVariants as goals
-use Rattle.tf_problem.specs.ProblemData.{ProblemData, problem_job, problem_time, problem_weight, problem_due, weight_by, due_by}
-use Rattle.tf_problem.specs.ProblemCost.{penalty}
+use Rattle.tf_posed.specs.ProblemData.{ProblemData, problem_job, problem_time, problem_weight, problem_due, weight_by, due_by}
+use Rattle.tf_posed.specs.ProblemCost.{penalty}
 use Rattle.tf_problem.specs.ProblemBounds.{is_sum_goal, price_of_rows, start_price}
 use Rattle.tf_bound.specs.RowSums.{late_steps}
 use Rattle.tf_bound.specs.Faulted.{is_dear, last_start}

@@ -8,7 +8,7 @@ use Rattle.std.proofs.lemmas.List.Elements.{All-contains}
 use Rattle.std.proofs.lemmas.List.FromFn.{get_or-map-range_with_len, length-map-range_with_len, map-range_with_len_more}
 use Rattle.tf_model.specs.Limit.{limit, most_jobs}
 use Rattle.tf_model.specs.Whole.{as_time, IsWithin}
-use Rattle.tf_problem.specs.ProblemData.{ProblemData, IsProblemJob, problem_job, problem_jobs, problem_release, problem_due, due_by}
+use Rattle.tf_posed.specs.ProblemData.{ProblemData, IsProblemJob, problem_job, problem_jobs, problem_release, problem_due, due_by}
 use Rattle.tf_model.specs.declared.problem.Goal.{Goal}
 use Rattle.tf_model.specs.declared.problem.Goal.TheVariants as goals
 use Rattle.tf_bound.specs.declared.pushed.Number.TheVariants.{Tail}

@@ -6,7 +6,7 @@ use Rattle.std.proofs.lemmas.Bool.Decides.{nat_tests}
 use Rattle.std.proofs.lemmas.List.{drop_all, drop_more, take_more}
 use Rattle.std.proofs.lemmas.List.Sums.{sum_by-cons}
 use Rattle.tf_model.specs.Bounds.{stands_in}
-use Rattle.tf_problem.specs.ProblemData.{ProblemData, IsProblemJob}
+use Rattle.tf_posed.specs.ProblemData.{ProblemData, IsProblemJob}
 use Rattle.tf_bound.specs.Faulted.{is_job, list_fault, IsFaultOrNoMemory}
 use Rattle.tf_bound.specs.declared.fault.BoundFault.{BoundFault}
 use Rattle.tf_bound.specs.declared.fault.BoundFault.TheVariants.{BadJob, Repeated}

@@ -5,7 +5,7 @@ use Rattle.std.proofs.lemmas.List.{length-set, get_or-set_same, get_or-set_other
 use Rattle.std.proofs.lemmas.List.Elements.{All-head, All-tail}
 use Rattle.std.proofs.lemmas.List.Sums.{sum_by-cons}
 use Rattle.tf_model.specs.Distinct.{IsDistinct}
-use Rattle.tf_problem.specs.ProblemData.{ProblemData, IsProblemJob}
+use Rattle.tf_posed.specs.ProblemData.{ProblemData, IsProblemJob}
 use Rattle.tf_bound.proofs.Steps.{all_next, sum_next}
 
 abbrev pub as_one : Bool → ℕ

@@ -5,7 +5,7 @@ use Rattle.std.proofs.lemmas.Int.{ints}
 use Rattle.std.proofs.lemmas.Bool.{false≢true, eq-eqb, ne_eqb, cases_lt, cases_Bool}
 use Rattle.std.proofs.lemmas.List.Folds.{list_any_at}
 use Rattle.tf_model.specs.ClassTable.{is_flow_env}
-use Rattle.tf_problem.specs.ProblemData.{ProblemData, IsProblemJob, problem_job, problem_jobs, problem_release, problem_due, problem_time_on}
+use Rattle.tf_posed.specs.ProblemData.{ProblemData, IsProblemJob, problem_job, problem_jobs, problem_release, problem_due, problem_time_on}
 use Rattle.tf_problem.specs.ProblemBounds.{problem_work}
 use Rattle.tf_problem.specs.Potentials.{potential_of_end, potential_after, potential_before, start_delay, ArePotentials, HaveTimeOnAll}
 use Rattle.tf_bound.specs.Sized.{IsSized}

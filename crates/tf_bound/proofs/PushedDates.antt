@@ -8,7 +8,7 @@ use Rattle.std.proofs.lemmas.List.Sums.{get_or-le-sum_by}
 use Rattle.std.proofs.lemmas.List.{get_or-map, get_or_default, get_or_past, length-map, same_lists}
 use Rattle.tf_model.specs.Limit.{limit}
 use Rattle.tf_model.specs.Whole.{as_time, IsWithin}
-use Rattle.tf_problem.specs.ProblemData.{ProblemData, IsProblemJob, no_problem_job, problem_job, problem_jobs, problem_release, problem_due}
+use Rattle.tf_posed.specs.ProblemData.{ProblemData, IsProblemJob, no_problem_job, problem_job, problem_jobs, problem_release, problem_due}
 use Rattle.tf_problem.specs.ProblemBounds.{is_max_goal, problem_work}
 use Rattle.tf_problem.specs.Pushed.{release_in, due_in, pushed, pushed_job, serving_by, AreServingDues}
 use Rattle.tf_problem.proofs.Pushed.{needed-by_arcs}

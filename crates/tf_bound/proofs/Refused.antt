@@ -4,7 +4,7 @@ use Rattle.std.proofs.lemmas.Bool.{false≢true}
 use Rattle.std.proofs.lemmas.List.{get_or_default, take_all}
 use Rattle.std.proofs.lemmas.List.Sums.{sum_by-take-le, get_or-le-sum_by}
 use Rattle.tf_model.specs.declared.problem.Problem.{Problem}
-use Rattle.tf_problem.specs.ProblemData.{ProblemData, ProblemJobData, is_job_shop, no_problem_job}
+use Rattle.tf_posed.specs.ProblemData.{ProblemData, ProblemJobData, is_job_shop, no_problem_job}
 use Rattle.tf_bound.specs.Sized.{IsSized, IsSizedJob, task_of, work, all_work}
 use Rattle.tf_model.specs.Limit.{limit}
 use Rattle.tf_bound.specs.Refused.{IsFitJob, AreFit, IsUnfitAt, IsTooMuchAt, IsJobsFault, IsCounted, IsInHorizon, AreArcsIn, IsTaskFault}

@@ -8,7 +8,7 @@ use Rattle.tf_model.specs.declared.problem.Env.{Env}
 use Rattle.tf_model.specs.declared.problem.Env.TheVariants.{Single, Parallel, Uniform, Unrelated, Flow, OpenShop, JobShop}
 use Rattle.tf_model.specs.ClassTable.{is_flow_env, is_shop_env}
 use Rattle.tf_model.specs.Limit.{limit}
-use Rattle.tf_problem.specs.ProblemData.{ProblemData, IsProblemJob, problem_job, problem_release, route_by, no_problem_job, is_job_shop}
+use Rattle.tf_posed.specs.ProblemData.{ProblemData, IsProblemJob, problem_job, problem_release, route_by, no_problem_job, is_job_shop}
 use Rattle.tf_problem.specs.ProblemBounds.{before, behind, head, tail}
 use Rattle.tf_problem.proofs.RouteLists.{before-range, behind-range}
 use Rattle.tf_bound.specs.Route.{IsRouted}

@@ -8,7 +8,7 @@ use Rattle.tf_model.specs.declared.problem.Goal.{Goal}
 use Rattle.tf_model.specs.declared.problem.Goal.TheVariants as goals
 use Rattle.tf_model.specs.Limit.{limit}
 use Rattle.tf_check.specs.Bound.{least_number}
-use Rattle.tf_problem.specs.ProblemData.{ProblemData, problem_time, problem_weight, due_by}
+use Rattle.tf_posed.specs.ProblemData.{ProblemData, problem_time, problem_weight, due_by}
 use Rattle.tf_problem.specs.ProblemBounds.{is_completion_goal}
 use Rattle.tf_problem.proofs.Least.{least_number-le}
 use Rattle.tf_problem.proofs.RowPrices.{completion_sum}

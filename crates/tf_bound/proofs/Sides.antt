@@ -5,10 +5,10 @@ use Rattle.std.specs.Option.{option_or}
 use Rattle.std.proofs.lemmas.List.Elements.{All-tail}
 use Rattle.tf_model.proofs.Sums.{sum_by-same_all}
 use Rattle.tf_check.specs.Bound.{least_number, least}
-use Rattle.tf_problem.specs.ProblemData.{ProblemData, IsProblemJob, problem_jobs, problem_time_on, problem_due}
+use Rattle.tf_posed.specs.ProblemData.{ProblemData, IsProblemJob, problem_jobs, problem_time_on, problem_due}
 use Rattle.tf_problem.specs.ProblemBounds.{head, tail}
 use Rattle.tf_problem.specs.Split.{reaches, reaches_delta, counts_less, keeps_side, counted, split_value}
-use Rattle.tf_problem.proofs.Relaxing.{All-problem_jobs}
+use Rattle.tf_posed.proofs.Conditions.{All-problem_jobs}
 use Rattle.tf_bound.specs.Faulted.{first_job, delta_fault, sides_fault}
 use Rattle.tf_bound.specs.declared.fault.BoundFault.TheVariants.{BadDelta, Condition}
 

@@ -9,11 +9,11 @@ use Rattle.tf_model.specs.ClassTable.{is_shop_env}
 use Rattle.tf_model.proofs.Costs.{sum_by-from}
 use Rattle.tf_model.proofs.Ranges.{sum_by-range_le}
 use Rattle.tf_model.proofs.Sums.{sum_by-same, sum_by-same_all}
-use Rattle.tf_problem.specs.ProblemData.{ProblemData, IsProblemSound, IsProblemJob, needs_time, problem_job, problem_time, time_over, no_problem_job}
-use Rattle.tf_problem.specs.ProblemData.{problem_jobs, problem_release, is_covered_env, is_covered_goal}
+use Rattle.tf_posed.specs.ProblemData.{ProblemData, IsProblemSound, IsProblemJob, needs_time, problem_job, problem_time, time_over, no_problem_job}
+use Rattle.tf_posed.specs.ProblemData.{problem_jobs, problem_release, is_covered_env, is_covered_goal}
 use Rattle.tf_problem.specs.ProblemBounds.{is_alike, numerator, problem_work}
 use Rattle.tf_problem.proofs.Pushed.{known_env}
-use Rattle.tf_problem.proofs.Relaxing.{All-problem_jobs}
+use Rattle.tf_posed.proofs.Conditions.{All-problem_jobs}
 use Rattle.tf_bound.specs.Sized.{IsSized, IsSizedJob, all_work, work}
 
 -- what is known of a job that is there

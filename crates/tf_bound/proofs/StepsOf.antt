@@ -6,7 +6,7 @@ use Rattle.std.proofs.lemmas.Bool.{false≢true}
 use Rattle.tf_model.specs.declared.problem.Env.{Env}
 use Rattle.tf_model.specs.declared.problem.Env.TheVariants.{Single, Parallel, Uniform, Unrelated, Flow, OpenShop, JobShop}
 use Rattle.tf_model.specs.ClassTable.{is_shop_env, is_flow_env}
-use Rattle.tf_problem.specs.ProblemData.{ProblemData, ProblemJobData, IsProblemJob, problem_job, route_by, route_of, is_job_shop}
+use Rattle.tf_posed.specs.ProblemData.{ProblemData, ProblemJobData, IsProblemJob, problem_job, route_by, route_of, is_job_shop}
 use Rattle.tf_problem.proofs.RouteLists.{range-apart, range-below, Contains-range}
 use Rattle.tf_bound.specs.Route.{IsRouted}
 use Rattle.tf_bound.specs.Sized.{IsSized}

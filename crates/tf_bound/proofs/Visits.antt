@@ -3,8 +3,8 @@ use Rattle.std.proofs.Common.{◌≡◌, Bool, ℕ, ◌+◌, ◌-◌, ◌*◌, �
 use Rattle.std.specs.List.{fold, range_with_len}
 use Rattle.std.proofs.lemmas.Bool.{cases_lt}
 use Rattle.tf_check.specs.Bound.{least_number}
-use Rattle.tf_problem.specs.ProblemData.{ProblemData, problem_time_on, problem_release, problem_weight, problem_due}
-use Rattle.tf_problem.specs.ProblemCost.{penalty}
+use Rattle.tf_posed.specs.ProblemData.{ProblemData, problem_time_on, problem_release, problem_weight, problem_due}
+use Rattle.tf_posed.specs.ProblemCost.{penalty}
 use Rattle.tf_problem.specs.ProblemBounds.{is_sum_goal, head, tail, problem_work, price_of_rows}
 use Rattle.tf_problem.specs.MachinePrices.{end_from, price_from, cheapest_from}
 use Rattle.tf_bound.specs.Prices.{is_by_unit}

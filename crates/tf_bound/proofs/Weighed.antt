@@ -8,7 +8,7 @@ use Rattle.tf_model.specs.declared.class.Class.TheVariants.{PrmpWeightedSum}
 use Rattle.tf_model.specs.SchedulingTask.{JobData, all_jobs, job_data}
 use Rattle.tf_check.specs.declared.weighted_job.WeightedJob.{WeightedJob}
 use Rattle.tf_check.specs.Ratio.{IsOfTask}
-use Rattle.tf_problem.specs.ProblemData.{ProblemData, IsProblemJob, problem_due, problem_jobs, problem_time_on}
+use Rattle.tf_posed.specs.ProblemData.{ProblemData, IsProblemJob, problem_due, problem_jobs, problem_time_on}
 use Rattle.tf_problem.specs.ProblemBounds.{int_sum}
 use Rattle.tf_problem.specs.Relaxed.{weighed_task, only_time}
 use Rattle.tf_bound.specs.Faulted.{owed_due, owed_to}

@@ -1,6 +1,6 @@
 -- Job by job, the multipliers of the arcs that have it at one end.
 use Rattle.std.specs.Prelude.{◌≡◌, ℕ, ◌*◌, ◌-◌, ◌^◌, ◌≤◌, Bool, ◌==◌, List, length, slice_index, if◌then◌else◌}
-use Rattle.tf_problem.specs.ProblemData.{ProblemData, IsProblemJob}
+use Rattle.tf_posed.specs.ProblemData.{ProblemData, IsProblemJob}
 use Rattle.tf_problem.specs.ProblemBounds.{over_arcs, problem_arcs}
 
 -- the job after an arc, or the one before it

@@ -1,7 +1,7 @@
 -- What a certificate of each kind bounds a task by.
 use Rattle.std.specs.Prelude.{◌≡◌, ◌⊎◌, ℕ, ℤ, pos, min, List, if◌then◌else◌, Option, Some, None, Result, MatchResult}
 use Rattle.tf_model.specs.Bounds.{stands_in}
-use Rattle.tf_problem.specs.ProblemData.{ProblemData}
+use Rattle.tf_posed.specs.ProblemData.{ProblemData}
 use Rattle.tf_problem.specs.ProblemBounds.{machine_value, window_value, crowd_value, one_job_value, any_multiplier_value, alone_cost}
 use Rattle.tf_problem.specs.Kept.{kept_value, kept_weight}
 use Rattle.tf_problem.specs.MachinePrices.{machine_prices_value}

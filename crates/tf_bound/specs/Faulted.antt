@@ -7,8 +7,8 @@ use Rattle.tf_model.specs.Bounds.{pairs_value, stands_in}
 use Rattle.tf_model.specs.ClassTable.{is_parallel_env}
 use Rattle.tf_model.specs.Limit.{limit}
 use Rattle.tf_check.specs.Bound.{least_number}
-use Rattle.tf_problem.specs.ProblemData.{ProblemData, problem_job, problem_jobs, problem_due, problem_release, problem_time, problem_time_on, problem_weight}
-use Rattle.tf_problem.specs.ProblemCost.{penalty}
+use Rattle.tf_posed.specs.ProblemData.{ProblemData, problem_job, problem_jobs, problem_due, problem_release, problem_time, problem_time_on, problem_weight}
+use Rattle.tf_posed.specs.ProblemCost.{penalty}
 use Rattle.tf_problem.specs.ProblemBounds.{head, int_sum, numerator, problem_work, tail, arcs_from, arcs_to, arcs_gain, moved, owed_dues}
 use Rattle.tf_problem.specs.Relaxed.{weighed_task}
 use Rattle.tf_problem.specs.Kept.{due_time}

@@ -2,7 +2,7 @@
 use Rattle.std.specs.Prelude.{ℕ, pos, ◌-ℤ◌}
 use Rattle.tf_model.specs.Limit.{limit}
 use Rattle.tf_model.specs.Whole.{as_time}
-use Rattle.tf_problem.specs.ProblemData.{ProblemData, problem_release, problem_due}
+use Rattle.tf_posed.specs.ProblemData.{ProblemData, problem_release, problem_due}
 use Rattle.tf_problem.specs.ProblemBounds.{problem_work}
 use Rattle.tf_bound.specs.declared.pushed.Number.{Number}
 use Rattle.tf_bound.specs.declared.pushed.Number.TheVariants.{Release, Work, Tail}

@@ -2,7 +2,7 @@
 use Rattle.std.specs.Prelude.{◌≡◌, ℕ, ◌⊎◌, ◌+◌, ◌≤◌, ◌<◌, Bool, true, false, ℤ, pos, ◌-ℤ◌, ◌≤ℤ◌, List, length, IsTrue}
 use Rattle.std.specs.List.{All}
 use Rattle.tf_model.specs.Whole.{IsWithin}
-use Rattle.tf_problem.specs.ProblemData.{ProblemData, IsProblemJob, problem_release, problem_due}
+use Rattle.tf_posed.specs.ProblemData.{ProblemData, IsProblemJob, problem_release, problem_due}
 use Rattle.tf_problem.specs.ProblemBounds.{is_max_goal, problem_work}
 use Rattle.tf_problem.specs.Pushed.{release_in, due_in, pushed, AreReleases, AreDues, AreOwnDues}
 use Rattle.tf_bound.specs.Sized.{IsSized}

@@ -3,8 +3,8 @@ use Rattle.std.specs.Prelude.{ℕ, ℤ, List, IsTrue, IsFalse}
 use Rattle.std.specs.List.Sorted.{IsPermutation}
 use Rattle.tf_model.specs.ClassTable.{is_single_env}
 use Rattle.tf_model.specs.Timetable.{Timetable}
-use Rattle.tf_problem.specs.ProblemData.{ProblemData, problem_jobs}
-use Rattle.tf_problem.specs.ProblemCost.{IsProblemBest}
+use Rattle.tf_posed.specs.ProblemData.{ProblemData, problem_jobs}
+use Rattle.tf_posed.specs.ProblemCost.{IsProblemBest}
 
 -- some timetable costs the number, and none costs less
 abbrev pub IsMinimum : ProblemData → ℤ → Type 0

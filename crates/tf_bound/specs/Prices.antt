@@ -2,7 +2,7 @@
 use Rattle.std.specs.Prelude.{◌≡◌, ℕ, ◌≤◌, Bool, true, false, ℤ, List}
 use Rattle.tf_model.specs.declared.problem.Goal.{Goal}
 use Rattle.tf_model.specs.declared.problem.Goal.TheVariants as goals
-use Rattle.tf_problem.specs.ProblemData.{ProblemData, IsProblemJob, problem_release}
+use Rattle.tf_posed.specs.ProblemData.{ProblemData, IsProblemJob, problem_release}
 use Rattle.tf_problem.specs.ProblemBounds.{start_price, numerator, AreCheapest, last_within, prices_value, rows_value}
 
 -- the objectives that count late jobs

@@ -5,7 +5,7 @@ use Rattle.std.specs.List.{All, sum_by}
 use Rattle.tf_model.specs.declared.problem.Problem.{Problem}
 use Rattle.tf_model.specs.ClassTable.{is_single_env}
 use Rattle.tf_model.specs.Limit.{limit, most_jobs, most_machines}
-use Rattle.tf_problem.specs.ProblemData.{ProblemData, ProblemJobData, IsProblemJob, is_covered, no_problem_job}
+use Rattle.tf_posed.specs.ProblemData.{ProblemData, ProblemJobData, IsProblemJob, is_covered, no_problem_job}
 use Rattle.tf_bound.specs.Sized.{IsSizedJob, work, all_work}
 use Rattle.tf_bound.specs.declared.fault.TaskFault.{TaskFault}
 use Rattle.tf_bound.specs.declared.fault.TaskFault.TheVariants.{NotCovered, Jobs, Machines, Times, TooLarge, Arc}

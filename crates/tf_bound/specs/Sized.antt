@@ -5,7 +5,7 @@ use Rattle.tf_model.specs.ClassTable.{is_single_env, is_shop_env}
 use Rattle.tf_model.specs.declared.problem.Problem.{Problem}
 use Rattle.tf_model.specs.Limit.{limit, most_jobs, most_machines}
 use Rattle.tf_model.specs.Whole.{IsWithin}
-use Rattle.tf_problem.specs.ProblemData.{ProblemData, ProblemJobData, IsProblemJob, is_covered, is_job_shop, needs_time}
+use Rattle.tf_posed.specs.ProblemData.{ProblemData, ProblemJobData, IsProblemJob, is_covered, is_job_shop, needs_time}
 use Rattle.tf_bound.specs.Route.{IsRouted}
 
 -- the task of these parts

@@ -2,7 +2,7 @@
 use Rattle.std.specs.Prelude.{◌≡◌, ℕ, ◌-◌, ◌<◌, Bool, false, List, length, slice_index_or, IsTrue}
 use Rattle.tf_model.specs.ClassTable.{is_flow_env}
 use Rattle.tf_model.specs.Bounds.{stands_in}
-use Rattle.tf_problem.specs.ProblemData.{ProblemData, IsProblemJob}
+use Rattle.tf_posed.specs.ProblemData.{ProblemData, IsProblemJob}
 
 -- one machine of a flow shop and a later one
 pub record ArePair (k : ProblemData) (a b : ℕ) : Type 0 where

@@ -3,7 +3,7 @@ use Rattle.std.specs.Prelude.{ℕ, List, length}
 use Rattle.std.specs.List.{range_with_len}
 use Rattle.tf_model.specs.declared.problem.Env.{Env}
 use Rattle.tf_model.specs.declared.problem.Env.TheVariants.{JobShop}
-use Rattle.tf_problem.specs.ProblemData.{ProblemData, ProblemJobData, problem_job}
+use Rattle.tf_posed.specs.ProblemData.{ProblemData, ProblemJobData, problem_job}
 
 -- in a job shop its route, elsewhere the machines from the first on for which it has times
 abbrev pub steps_by : Env → ProblemJobData → List ℕ

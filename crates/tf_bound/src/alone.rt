@@ -1,7 +1,7 @@
 //! The bound of a sum by each job by itself: it starts at its release date and waits nowhere.
 ghost use Rattle.std.specs.Prelude.{◌≡◌, ◌+◌, min, pos, IfOk, IsTrue};
-ghost use Rattle.tf_problem.specs.ProblemData.{IsProblemJob, problem_release};
-ghost use Rattle.tf_problem.specs.ProblemCost.{penalty, IsLowerBound};
+ghost use Rattle.tf_posed.specs.ProblemData.{IsProblemJob, problem_release};
+ghost use Rattle.tf_posed.specs.ProblemCost.{penalty, IsLowerBound};
 ghost use Rattle.tf_problem.specs.ProblemBounds.{is_sum_goal, alone_cost, problem_work};
 ghost use Rattle.tf_bound.specs.Certified.{IsAloneBound, most_value};
 ghost use Rattle.tf_bound.specs.Faulted.{alone_fault, NamesFault};

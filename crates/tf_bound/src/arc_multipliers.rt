@@ -2,7 +2,7 @@
 ghost use Rattle.std.specs.Prelude.{◌≡◌, ℕ, ◌+◌, ◌*◌, ◌-◌, ◌^◌, ◌≤◌, ◌==◌, cond, is_none, nat_le};
 ghost use Rattle.std.specs.Prelude.{map, length, slice_index, IfErr, IfOk, IfSome, MatchOption};
 ghost use Rattle.std.specs.List.{All, list_any};
-ghost use Rattle.tf_problem.specs.ProblemData.{IsProblemJob, problem_jobs};
+ghost use Rattle.tf_posed.specs.ProblemData.{IsProblemJob, problem_jobs};
 ghost use Rattle.tf_problem.specs.ProblemBounds.{arcs_from, arcs_gain, arcs_to, moved, numerator};
 ghost use Rattle.tf_problem.specs.ProblemBounds.{over_arcs, problem_arcs};
 ghost use Rattle.tf_bound.specs.Faulted.{first_job, is_overdrawn, too_large, NamesFault};

@@ -1,6 +1,6 @@
 //! Certificates of lower bounds, of every kind, and their judge.
 ghost use Rattle.std.specs.Prelude.{IfOk};
-ghost use Rattle.tf_problem.specs.ProblemCost.{IsLowerBound};
+ghost use Rattle.tf_posed.specs.ProblemCost.{IsLowerBound};
 ghost use Rattle.tf_bound.specs.Faulted.{certificate_fault, NamesFault};
 ghost use Rattle.tf_bound.specs.Certified.{IsBoundBy, IsValueOn, NamesFaultBy};
 

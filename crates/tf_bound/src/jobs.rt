@@ -2,7 +2,7 @@
 ghost use Rattle.std.specs.Prelude.{◌≡◌, ◌≤◌, [], length, IfOk};
 ghost use Rattle.std.specs.List.{All};
 ghost use Rattle.tf_model.specs.Distinct.{IsDistinct};
-ghost use Rattle.tf_problem.specs.ProblemData.{IsProblemJob};
+ghost use Rattle.tf_posed.specs.ProblemData.{IsProblemJob};
 ghost use Rattle.tf_bound.specs.Faulted.{list_fault, NamesFault};
 ghost use Rattle.tf_bound.specs.Sized.{IsSized};
 ghost use Rattle.tf_bound.specs.Split.{AreSides};

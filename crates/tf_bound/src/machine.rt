@@ -4,8 +4,8 @@ ghost use Rattle.std.specs.Prelude.{◌≡◌, ◌*◌, ◌<◌, ◌≤◌, ◌-
 ghost use Rattle.std.specs.List.{All};
 ghost use Rattle.tf_model.specs.Limit.{limit};
 ghost use Rattle.tf_check.specs.Bound.{least, least_number};
-ghost use Rattle.tf_problem.specs.ProblemData.{IsProblemJob, problem_due, problem_time_on};
-ghost use Rattle.tf_problem.specs.ProblemCost.{IsLowerBound};
+ghost use Rattle.tf_posed.specs.ProblemData.{IsProblemJob, problem_due, problem_time_on};
+ghost use Rattle.tf_posed.specs.ProblemCost.{IsLowerBound};
 ghost use Rattle.tf_problem.specs.ProblemBounds.{is_by_machine, is_max_goal, head, tail};
 ghost use Rattle.tf_problem.specs.ProblemBounds.{machine_value};
 ghost use Rattle.tf_bound.specs.Kinds.{takes_machine};

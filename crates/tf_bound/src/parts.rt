@@ -6,8 +6,8 @@ ghost use Rattle.std.specs.List.{All};
 ghost use Rattle.tf_model.specs.ClassTable.{is_shop_env};
 ghost use Rattle.tf_model.specs.Limit.{limit};
 ghost use Rattle.tf_model.specs.Whole.{as_time};
-ghost use Rattle.tf_problem.specs.ProblemData.{IsProblemJob};
-ghost use Rattle.tf_problem.specs.ProblemCost.{IsLowerBound};
+ghost use Rattle.tf_posed.specs.ProblemData.{IsProblemJob};
+ghost use Rattle.tf_posed.specs.ProblemCost.{IsLowerBound};
 ghost use Rattle.tf_problem.specs.Parts.{part_of, time_behind};
 ghost use Rattle.tf_bound.specs.Faulted.{parts_fault, NamesFault};
 

@@ -2,9 +2,9 @@
 ghost use Rattle.std.specs.Prelude.{◌≡◌, ◌*◌, ℕ, ℤ, List, ◌<◌, ◌≤◌, pos, ◌-ℤ◌, length, map, IfOk, IfSome, IsTrue};
 ghost use Rattle.std.specs.Prelude.{MatchOption, slice_index, slice_index_or};
 ghost use Rattle.tf_model.specs.Limit.{limit};
-ghost use Rattle.tf_problem.specs.ProblemData.{ProblemData, IsProblemJob, problem_job};
-ghost use Rattle.tf_problem.specs.ProblemData.{problem_jobs};
-ghost use Rattle.tf_problem.specs.ProblemCost.{IsLowerBound};
+ghost use Rattle.tf_posed.specs.ProblemData.{ProblemData, IsProblemJob, problem_job};
+ghost use Rattle.tf_posed.specs.ProblemData.{problem_jobs};
+ghost use Rattle.tf_posed.specs.ProblemCost.{IsLowerBound};
 ghost use Rattle.tf_problem.specs.ProblemBounds.{is_max_goal, problem_work};
 ghost use Rattle.tf_problem.specs.Pushed.{dated_goal, pushed, pushed_job};
 ghost use Rattle.tf_bound.specs.JobNumbers.{number_by};

@@ -4,7 +4,7 @@ ghost use Rattle.std.specs.Prelude.{ℕ, length, IsTrue, IsFalse, MatchResult};
 ghost use Rattle.std.specs.List.{All, sum_by};
 ghost use Rattle.tf_model.specs.ClassTable.{is_single_env, is_flow_env};
 ghost use Rattle.tf_model.specs.Limit.{limit};
-ghost use Rattle.tf_problem.specs.ProblemData.{ProblemData, is_covered, is_job_shop, needs_time};
+ghost use Rattle.tf_posed.specs.ProblemData.{ProblemData, is_covered, is_job_shop, needs_time};
 ghost use Rattle.tf_bound.specs.Refused.{IsCounted, IsFitJob, IsJobsFault};
 ghost use Rattle.tf_bound.specs.Refused.{IsTaskFault};
 ghost use Rattle.tf_bound.specs.Route.{IsRouted};
@@ -31,7 +31,7 @@ pub struct ProblemJob<A: Allocator = Global> {
 }
 
 impl<A: Allocator> Model for ProblemJob<A> {
-    ghost use Rattle.tf_problem.specs.ProblemData.{ProblemJobData};
+    ghost use Rattle.tf_posed.specs.ProblemData.{ProblemJobData};
     ghost use Rattle.tf_bound.specs.JobTimes.{listed, route_in};
 
     ghost Value = { ProblemJobData };
@@ -57,7 +57,7 @@ pub struct ProblemTask<A: Allocator = Global> {
 }
 
 impl<A: Allocator> Model for ProblemTask<A> {
-    ghost use Rattle.tf_problem.specs.ProblemData.{ProblemData};
+    ghost use Rattle.tf_posed.specs.ProblemData.{ProblemData};
     ghost use Rattle.tf_bound.specs.Sized.{IsSized};
 
     ghost Value = { ProblemData };
@@ -279,9 +279,9 @@ impl<A: Allocator> ProblemTask<A> {
     ghost use Rattle.tf_model.specs.ClassTable.{is_shop_env};
     ghost use Rattle.tf_model.specs.Limit.{limit};
     ghost use Rattle.tf_model.specs.Whole.{IsWithin};
-    ghost use Rattle.tf_problem.specs.ProblemData.{IsProblemJob, problem_job, problem_time};
-    ghost use Rattle.tf_problem.specs.ProblemData.{problem_time_on, problem_release};
-    ghost use Rattle.tf_problem.specs.ProblemData.{problem_weight, problem_due};
+    ghost use Rattle.tf_posed.specs.ProblemData.{IsProblemJob, problem_job, problem_time};
+    ghost use Rattle.tf_posed.specs.ProblemData.{problem_time_on, problem_release};
+    ghost use Rattle.tf_posed.specs.ProblemData.{problem_weight, problem_due};
     ghost use Rattle.tf_problem.specs.ProblemBounds.{is_by_machine, head, problem_work, tail};
     ghost use Rattle.tf_problem.specs.Split.{lag};
     ghost use Rattle.tf_bound.specs.Split.{ArePair};

@@ -1,7 +1,7 @@
 -- What the text of a bound says.
 use Rattle.std.specs.Prelude.{◌≡◌, ℕ, ℤ, pos, Bool, List, Option}
 use Rattle.tf_model.specs.declared.problem.Problem.{Problem}
-use Rattle.tf_problem.specs.ProblemData.{ProblemData}
+use Rattle.tf_posed.specs.ProblemData.{ProblemData}
 use Rattle.tf_problem.specs.ProblemBounds.{machine_value, window_value, crowd_value, one_job_value, any_multiplier_value}
 use Rattle.tf_problem.specs.MachinePrices.{machine_prices_value}
 use Rattle.tf_problem.specs.Shortest.{shortest_value}

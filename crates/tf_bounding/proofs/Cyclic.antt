@@ -1,6 +1,6 @@
 -- A refusal for the sake of a cycle of the arcs.
 use Rattle.std.proofs.Common.{◌≡◌, false, refl}
-use Rattle.tf_problem.specs.ProblemData.{ProblemData}
+use Rattle.tf_posed.specs.ProblemData.{ProblemData}
 use Rattle.tf_engine.specs.Faults.{Stop, Refuses, Fails, Wants, is_on_instance}
 use Rattle.tf_engine.specs.Parts.{StopsBy}
 use Rattle.tf_bounding.specs.Feasible.{IsCyclicTask}

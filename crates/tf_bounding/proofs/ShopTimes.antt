@@ -9,7 +9,7 @@ use Rattle.tf_model.specs.Limit.{most_bytes}
 use Rattle.tf_model.specs.Outcome.{◌>>=◌}
 use Rattle.tf_model.specs.declared.prepare.Refusal.TheVariants.{TotalTooLarge}
 use Rattle.tf_model.specs.declared.problem.Env.{Env}
-use Rattle.tf_problem.specs.ProblemData.{is_job_shop}
+use Rattle.tf_posed.specs.ProblemData.{is_job_shop}
 use Rattle.tf_read.specs.declared.fault.ReadFault.{ReadFault}
 use Rattle.tf_read.specs.declared.fault.ReadFault.TheVariants.{OutOfMemory, TooLong}
 use Rattle.tf_read.specs.Faults.{Fails}

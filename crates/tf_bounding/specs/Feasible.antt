@@ -1,6 +1,6 @@
 -- Why no timetable fits the task of a problem.
 use Rattle.std.specs.Prelude.{◌≡◌, ℕ, List}
-use Rattle.tf_problem.specs.ProblemData.{ProblemData}
+use Rattle.tf_posed.specs.ProblemData.{ProblemData}
 use Rattle.tf_engine.specs.Faults.{Refused, ByCycle}
 use Rattle.tf_plan.specs.Order.{IsProblemCycle}
 

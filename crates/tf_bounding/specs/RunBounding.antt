@@ -8,7 +8,7 @@ use Rattle.tf_notation.specs.Reading.{notation}
 use Rattle.tf_text.specs.declared.counted.Counted.{Counted}
 use Rattle.tf_text.specs.Counted.{DeviceUse, inner_of, has_failed}
 use Rattle.tf_text.specs.Input.{IsTextOf}
-use Rattle.tf_problem.specs.ProblemData.{ProblemData, is_covered}
+use Rattle.tf_posed.specs.ProblemData.{ProblemData, is_covered}
 use Rattle.tf_bound.specs.Sized.{IsSized}
 use Rattle.tf_engine.specs.declared.fault.RunFault.{RunFault}
 use Rattle.tf_engine.specs.Faults.{Refused, ByNotation, ByTask, Stop, stop_of, end_of}

@@ -6,7 +6,7 @@ use Rattle.tf_model.specs.InstanceData.{InstanceData}
 use Rattle.tf_model.specs.Outcome.{◌>>=◌}
 use Rattle.tf_model.specs.declared.prepare.Refusal.TheVariants.{TotalTooLarge}
 use Rattle.tf_model.specs.declared.problem.Env.{Env}
-use Rattle.tf_problem.specs.ProblemData.{is_job_shop}
+use Rattle.tf_posed.specs.ProblemData.{is_job_shop}
 use Rattle.tf_read.specs.declared.fault.ReadFault.{ReadFault}
 use Rattle.tf_read.specs.FlowShop.{flow_shop}
 use Rattle.tf_routes.specs.JobShop.{job_shop}

@@ -3,7 +3,7 @@ ghost use Rattle.std.specs.Prelude.{MatchResult};
 ghost use Rattle.tf_engine.specs.Faults.{stop_of};
 ghost use Rattle.tf_engine.specs.Parts.{StopsBy};
 ghost use Rattle.tf_plan.specs.Order.{IsFeasible, IsNoOrder};
-ghost use Rattle.tf_problem.specs.ProblemData.{ProblemData};
+ghost use Rattle.tf_posed.specs.ProblemData.{ProblemData};
 ghost use Rattle.tf_bounding.specs.Feasible.{IsCyclicTask};
 
 use std::alloc::Allocator;

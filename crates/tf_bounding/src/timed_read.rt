@@ -2,7 +2,7 @@
 //! a job shop along their routes.
 ghost use Rattle.std.specs.Prelude.{◌≡◌, ◌≤◌, length, Ok, Err, IfOk, MatchResult};
 ghost use Rattle.tf_model.specs.Limit.{most_bytes, most_machines};
-ghost use Rattle.tf_problem.specs.ProblemData.{is_job_shop};
+ghost use Rattle.tf_posed.specs.ProblemData.{is_job_shop};
 ghost use Rattle.tf_routes.specs.RoutedData.{HasRoutes};
 ghost use Rattle.tf_engine.specs.Faults.{stop_of};
 ghost use Rattle.tf_engine.specs.FormData.{form_of};

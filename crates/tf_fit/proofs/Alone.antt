@@ -5,7 +5,7 @@ use Rattle.std.proofs.lemmas.Bool.{cases_lt}
 use Rattle.tf_model.specs.Limit.{limit}
 use Rattle.tf_model.specs.Timetable.{cell, all_units}
 use Rattle.tf_model.specs.Feasible.{IsKept}
-use Rattle.tf_problem.specs.FitsProblem.{IsWithoutWait}
+use Rattle.tf_posed.specs.FitsProblem.{IsWithoutWait}
 use Rattle.tf_schedule.specs.declared.piece.Piece.{Piece}
 use Rattle.tf_schedule.specs.Piece.{machine_of}
 use Rattle.tf_schedule.specs.Schedule.{IsSchedule, IsPiece}

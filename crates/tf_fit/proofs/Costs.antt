@@ -11,10 +11,10 @@ use Rattle.tf_model.specs.declared.problem.Goal.TheVariants as goals
 use Rattle.tf_model.specs.Cost.{greatest}
 use Rattle.tf_model.specs.Timetable.{completion}
 use Rattle.tf_model.proofs.Sums.{sum_by-same_all}
-use Rattle.tf_problem.specs.ProblemData.{ProblemData, IsProblemJob, problem_jobs}
+use Rattle.tf_posed.specs.ProblemData.{ProblemData, IsProblemJob, problem_jobs}
 use Rattle.tf_problem.specs.ProblemBounds.{is_max_goal}
-use Rattle.tf_problem.specs.ProblemCost.{lateness, penalty, problem_cost_by}
-use Rattle.tf_problem.proofs.Relaxing.{All-problem_jobs}
+use Rattle.tf_posed.specs.ProblemCost.{lateness, penalty, problem_cost_by}
+use Rattle.tf_posed.proofs.Conditions.{All-problem_jobs}
 use Rattle.tf_schedule.specs.declared.piece.Piece.{Piece}
 use Rattle.tf_schedule.specs.Drawing.{drawing}
 use Rattle.tf_schedule.specs.Lanes.{LanesData, HasLanes, stop_in}

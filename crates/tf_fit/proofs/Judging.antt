@@ -16,8 +16,8 @@ use Rattle.tf_model.specs.declared.problem.Env.{Env}
 use Rattle.tf_model.specs.declared.problem.Env.TheVariants.{Flow, JobShop}
 use Rattle.tf_model.specs.Timetable.{Timetable}
 use Rattle.tf_model.specs.Feasible.{EachJob, IsKept}
-use Rattle.tf_problem.specs.ProblemData.{ProblemData, IsProblemJob, problem_job, no_problem_job, is_job_shop, route_by}
-use Rattle.tf_problem.specs.FitsProblem.{FitsProblem, HasProblemTime, IsProblemUnbroken, IsOnRoute, VisitsFirst, IsInOneOrder}
+use Rattle.tf_posed.specs.ProblemData.{ProblemData, IsProblemJob, problem_job, no_problem_job, is_job_shop, route_by}
+use Rattle.tf_posed.specs.FitsProblem.{FitsProblem, HasProblemTime, IsProblemUnbroken, IsOnRoute, VisitsFirst, IsInOneOrder}
 use Rattle.tf_bound.specs.Sized.{IsSized}
 use Rattle.tf_bound.specs.Steps.{steps_of}
 use Rattle.tf_bound.proofs.StepsOf.{route_steps, without_route, shop_of_route, steps_below}

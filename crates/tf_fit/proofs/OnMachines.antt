@@ -2,7 +2,7 @@
 use Rattle.std.proofs.Common.{◌≡◌, ℕ, ◌+◌, ◌-◌, ◌<◌, ◌≤◌, List, ◌∙◌}
 use Rattle.std.specs.List.{All}
 use Rattle.tf_model.specs.Timetable.{cell, units}
-use Rattle.tf_problem.specs.FitsProblem.{VisitsFirst}
+use Rattle.tf_posed.specs.FitsProblem.{VisitsFirst}
 use Rattle.tf_schedule.specs.declared.piece.Piece.{Piece}
 use Rattle.tf_schedule.specs.Schedule.{IsSchedule}
 use Rattle.tf_schedule.specs.Claims.{JobsOnce}

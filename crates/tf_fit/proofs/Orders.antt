@@ -13,7 +13,7 @@ use Rattle.std.proofs.lemmas.List.Sorted.{All-permutation, Contains-permutation,
 use Rattle.std.proofs.lemmas.List.Sums.{sum_by-set, sum_by-le, sum_by-cons}
 use Rattle.tf_model.specs.Timetable.{cell}
 use Rattle.tf_model.proofs.Work.{distinct_apart}
-use Rattle.tf_problem.specs.FitsProblem.{GoesFirst}
+use Rattle.tf_posed.specs.FitsProblem.{GoesFirst}
 use Rattle.tf_schedule.specs.declared.piece.Piece.{Piece}
 use Rattle.tf_schedule.specs.Amounts.{start_of}
 use Rattle.tf_schedule.specs.Drawing.{drawing, stop_of, IsOnMachine}

@@ -4,8 +4,8 @@ use Rattle.std.specs.Prelude.{◌≡◌, ℕ, ◌<◌, ◌≤◌, Bool, true, no
 use Rattle.tf_model.specs.declared.problem.Problem.{Problem}
 use Rattle.tf_model.specs.ClassTable.{is_shop_env, is_flow_env}
 use Rattle.tf_model.specs.Timetable.{Timetable}
-use Rattle.tf_problem.specs.ProblemData.{ProblemData, problem_job, problem_time, is_job_shop}
-use Rattle.tf_problem.specs.FitsProblem.{HasProblemTime, IsProblemUnbroken, IsProblemReleased, IsOnRoute, IsWithoutWait}
+use Rattle.tf_posed.specs.ProblemData.{ProblemData, problem_job, problem_time, is_job_shop}
+use Rattle.tf_posed.specs.FitsProblem.{HasProblemTime, IsProblemUnbroken, IsProblemReleased, IsOnRoute, IsWithoutWait}
 use Rattle.tf_bound.specs.Steps.{steps_of}
 use Rattle.tf_schedule.specs.Extent.{extent_at, IsGapless}
 use Rattle.tf_schedule.specs.Lanes.{LanesData, IsOnOne}

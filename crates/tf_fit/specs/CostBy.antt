@@ -4,8 +4,8 @@ use Rattle.std.specs.List.{sum_by, range_with_len}
 use Rattle.tf_model.specs.declared.problem.Goal.{Goal}
 use Rattle.tf_model.specs.declared.problem.Goal.TheVariants as goals
 use Rattle.tf_model.specs.Cost.{greatest}
-use Rattle.tf_problem.specs.ProblemData.{ProblemData, problem_jobs}
-use Rattle.tf_problem.specs.ProblemCost.{lateness, penalty}
+use Rattle.tf_posed.specs.ProblemData.{ProblemData, problem_jobs}
+use Rattle.tf_posed.specs.ProblemCost.{lateness, penalty}
 
 -- of a job that completes at c: the completion, for the maximum lateness less its due date
 abbrev pub price_at : Goal → ProblemData → ℕ → ℕ → ℤ

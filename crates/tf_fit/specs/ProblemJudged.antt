@@ -2,8 +2,8 @@
 use Rattle.std.specs.Prelude.{Bool, List, Option, None, Some, IsTrue, IsFalse}
 use Rattle.std.specs.List.{All}
 use Rattle.tf_model.specs.Timetable.{Timetable}
-use Rattle.tf_problem.specs.ProblemData.{ProblemData}
-use Rattle.tf_problem.specs.FitsProblem.{FitsProblem, IsInOneOrder}
+use Rattle.tf_posed.specs.ProblemData.{ProblemData}
+use Rattle.tf_posed.specs.FitsProblem.{FitsProblem, IsInOneOrder}
 use Rattle.tf_schedule.specs.declared.piece.Piece.{Piece}
 use Rattle.tf_schedule.specs.Drawing.{Draws, drawing}
 use Rattle.tf_fit.specs.declared.misfit.ProblemMisfit.{ProblemMisfit}

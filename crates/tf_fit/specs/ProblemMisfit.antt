@@ -4,8 +4,8 @@ use Rattle.std.specs.Prelude.{◌≡◌, pos, ◌≤ℤ◌, List, length, IsTrue
 use Rattle.std.specs.List.{All}
 use Rattle.tf_model.specs.Feasible.{EachJob, IsOnce, IsKept}
 use Rattle.tf_model.specs.Timetable.{Timetable}
-use Rattle.tf_problem.specs.ProblemData.{ProblemData, IsProblemJob}
-use Rattle.tf_problem.specs.FitsProblem.{HasProblemTime, IsProblemUnbroken, IsProblemReleased, IsOnRoute, IsInOneOrder, IsWithoutWait}
+use Rattle.tf_posed.specs.ProblemData.{ProblemData, IsProblemJob}
+use Rattle.tf_posed.specs.FitsProblem.{HasProblemTime, IsProblemUnbroken, IsProblemReleased, IsOnRoute, IsInOneOrder, IsWithoutWait}
 use Rattle.tf_schedule.specs.declared.piece.Piece.{Piece}
 use Rattle.tf_schedule.specs.declared.fit.Misfit.{Misfit}
 use Rattle.tf_schedule.specs.declared.fit.Misfit.TheVariants.{Stranger, JobTwice, WrongAmount, Broken, TooEarly, OutOfOrder, OutOfMemory}

@@ -1,7 +1,7 @@
 //! What is asked of each job of a problem.
 ghost use Rattle.std.specs.Prelude.{◌≡◌, ◌+◌, ◌^◌, ◌<◌, ◌↔◌, length, IsTrue};
 ghost use Rattle.tf_bound.specs.Sized.{IsSized};
-ghost use Rattle.tf_problem.specs.ProblemData.{IsProblemJob};
+ghost use Rattle.tf_posed.specs.ProblemData.{IsProblemJob};
 ghost use Rattle.tf_schedule.specs.Condition.{FindsSmallestNot};
 ghost use Rattle.tf_fit.specs.Condition.{HaveTimes, AreGapless, AreInOrder, IsMet};
 ghost use Rattle.tf_fit.specs.Condition.{is_asked};
@@ -82,7 +82,7 @@ fn are_in_order<A: Allocator, B: Allocator>(
 
 impl Condition {
     ghost use Rattle.std.specs.Prelude.{◌≡◌, ◌↔◌, IsTrue};
-    ghost use Rattle.tf_problem.specs.ProblemData.{IsProblemJob};
+    ghost use Rattle.tf_posed.specs.ProblemData.{IsProblemJob};
     ghost use Rattle.tf_fit.specs.Condition.{IsMet, is_asked};
 
     // Whether the problem asks for it.

@@ -2,9 +2,9 @@
 ghost use Rattle.std.specs.Prelude.{◌≡◌, ◌*◌, ◌^◌, ◌<◌, ◌≤◌, false, length, pos, List};
 ghost use Rattle.std.specs.List.{All};
 ghost use Rattle.tf_model.specs.Cost.{greatest};
-ghost use Rattle.tf_problem.specs.ProblemData.{IsProblemJob, problem_job, problem_jobs};
+ghost use Rattle.tf_posed.specs.ProblemData.{IsProblemJob, problem_job, problem_jobs};
 ghost use Rattle.tf_problem.specs.ProblemBounds.{is_max_goal};
-ghost use Rattle.tf_problem.specs.ProblemCost.{penalty, tardiness, problem_cost_by};
+ghost use Rattle.tf_posed.specs.ProblemCost.{penalty, tardiness, problem_cost_by};
 ghost use Rattle.tf_schedule.specs.declared.piece.Piece.{Piece};
 ghost use Rattle.tf_schedule.specs.Drawing.{drawing};
 ghost use Rattle.tf_schedule.specs.Lanes.{HasLanes, stop_in};

@@ -2,7 +2,7 @@
 ghost use Rattle.std.specs.Prelude.{◌≡◌, ◌↔◌, ◌<◌, ◌≤◌, false, length, List, IfOk, IsTrue};
 ghost use Rattle.std.specs.Prelude.{MatchOption};
 ghost use Rattle.std.specs.List.{All};
-ghost use Rattle.tf_problem.specs.FitsProblem.{FitsProblem};
+ghost use Rattle.tf_posed.specs.FitsProblem.{FitsProblem};
 ghost use Rattle.tf_schedule.specs.Claims.{JobsOnce};
 ghost use Rattle.tf_schedule.specs.declared.piece.Piece.{Piece};
 ghost use Rattle.tf_schedule.specs.Drawing.{drawing};

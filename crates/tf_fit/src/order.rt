@@ -3,8 +3,8 @@ ghost use Rattle.std.specs.Prelude.{◌≡◌, ◌^◌, ◌<◌, ◌≤◌, ◌�
 ghost use Rattle.std.specs.Prelude.{MatchOption};
 ghost use Rattle.std.specs.List.{All, AllPairs, range_with_len};
 ghost use Rattle.std.specs.List.Sorted.{IsPermutation};
-ghost use Rattle.tf_problem.specs.ProblemData.{problem_jobs};
-ghost use Rattle.tf_problem.specs.FitsProblem.{GoesFirst, IsInOneOrder};
+ghost use Rattle.tf_posed.specs.ProblemData.{problem_jobs};
+ghost use Rattle.tf_posed.specs.FitsProblem.{GoesFirst, IsInOneOrder};
 ghost use Rattle.tf_schedule.specs.Drawing.{drawing};
 ghost use Rattle.tf_schedule.specs.Schedule.{IsSchedule};
 ghost use Rattle.tf_fit.specs.Passing.{IsPassed, ArePlaced, IsEndless, IsRaised, IsWalked};

@@ -11,7 +11,7 @@ use Rattle.tf_model.specs.Outcome.{◌>>=◌}
 use Rattle.tf_model.specs.Prepare.{prepared}
 use Rattle.tf_model.specs.SchedulingTask.{SchedulingTask}
 use Rattle.tf_model.proofs.Outcomes.{bind_ok}
-use Rattle.tf_problem.specs.ProblemData.{ProblemData}
+use Rattle.tf_posed.specs.ProblemData.{ProblemData}
 use Rattle.tf_prepare.specs.TimedData.{self_timed}
 use Rattle.tf_prepare.specs.Preparing.{prepared_in}
 use Rattle.tf_read.specs.WeightedTardiness.{weighted_tardiness}

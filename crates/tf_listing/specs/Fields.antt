@@ -10,7 +10,7 @@ use Rattle.tf_model.specs.declared.job.Times.{Times}
 use Rattle.tf_model.specs.declared.job.Times.TheVariants.{One, Two}
 use Rattle.tf_model.specs.declared.problem.Goal.{Goal}
 use Rattle.tf_model.specs.declared.problem.Problem.{Problem}
-use Rattle.tf_problem.specs.ProblemData.{is_job_shop, needs_time}
+use Rattle.tf_posed.specs.ProblemData.{is_job_shop, needs_time}
 use Rattle.tf_prepare.specs.Preparing.{uses_weight, uses_due}
 use Rattle.tf_listing.specs.declared.listing.Listed.{Listed}
 use Rattle.tf_listing.specs.declared.listing.Listed.TheVariants.{Solved, Bounded}

@@ -11,7 +11,7 @@ use Rattle.tf_model.specs.declared.problem.Goal.{Goal}
 use Rattle.tf_model.specs.declared.problem.Goal.TheVariants.{Cmax, Lmax, Hmax, SumC, SumWC, SumT, SumWT, SumU, SumWU}
 use Rattle.tf_model.specs.declared.problem.Problem.{Problem}
 use Rattle.tf_notation.specs.Canonical.{canonical}
-use Rattle.tf_problem.specs.ProblemData.{is_job_shop}
+use Rattle.tf_posed.specs.ProblemData.{is_job_shop}
 use Rattle.tf_prepare.specs.Preparing.{uses_weight, uses_due}
 use Rattle.tf_listing.specs.Fields.{is_listed, uses_cost}
 use Rattle.tf_listing.specs.Unsolved.{unsolved_problems}

@@ -7,7 +7,7 @@ use Rattle.tf_model.specs.declared.problem.Env.TheVariants.{Single, Parallel, Un
 use Rattle.tf_model.specs.declared.problem.Goal.{Goal}
 use Rattle.tf_model.specs.declared.problem.Goal.TheVariants.{Cmax, Lmax, Hmax, SumC, SumWC, SumT, SumWT, SumU, SumWU}
 use Rattle.tf_model.specs.declared.problem.Problem.{Problem}
-use Rattle.tf_problem.specs.ProblemData.{is_covered}
+use Rattle.tf_posed.specs.ProblemData.{is_covered}
 
 -- all environments, in the order of the list
 abbrev pub environments : List Env

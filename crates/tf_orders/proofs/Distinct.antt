@@ -7,7 +7,7 @@ use Rattle.tf_model.specs.Distinct.{IsDistinct}
 use Rattle.tf_model.specs.ClassTable.{plain_problem}
 use Rattle.tf_model.specs.declared.problem.Env.TheVariants.{Single}
 use Rattle.tf_model.specs.declared.problem.Goal.TheVariants.{Cmax}
-use Rattle.tf_problem.specs.ProblemData.{ProblemData, ProblemJobData, no_problem_job, IsProblemJob}
+use Rattle.tf_posed.specs.ProblemData.{ProblemData, ProblemJobData, no_problem_job, IsProblemJob}
 use Rattle.tf_bound.proofs.Marks.{AreMarks, as_one, distinct}
 use Rattle.tf_bound.proofs.Steps.{sum_next}
 

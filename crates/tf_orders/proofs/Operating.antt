@@ -11,7 +11,7 @@ use Rattle.tf_schedule.specs.declared.piece.Piece.{Piece}
 use Rattle.tf_schedule.specs.Piece.{job_of, piece_of}
 use Rattle.tf_schedule.specs.SemiActive.{job_stop}
 use Rattle.tf_schedule.proofs.Laying.{line_stop_push}
-use Rattle.tf_problem.specs.ProblemData.{ProblemData, IsProblemJob, problem_release, problem_time_on}
+use Rattle.tf_posed.specs.ProblemData.{ProblemData, IsProblemJob, problem_release, problem_time_on}
 use Rattle.tf_bound.specs.Steps.{steps_of}
 use Rattle.tf_orders.specs.declared.order.Turn.{Turn}
 use Rattle.tf_orders.specs.declared.flaw.Flaw.{Flaw}

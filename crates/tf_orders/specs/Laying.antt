@@ -6,7 +6,7 @@ use Rattle.std.specs.List.{fold}
 use Rattle.tf_model.specs.Limit.{limit}
 use Rattle.tf_model.specs.ClassTable.{is_shop, is_shop_env}
 use Rattle.tf_model.specs.SchedulingTask.{SchedulingTask, job_data}
-use Rattle.tf_problem.specs.ProblemData.{ProblemData, problem_job, problem_release, is_job_shop}
+use Rattle.tf_posed.specs.ProblemData.{ProblemData, problem_job, problem_release, is_job_shop}
 use Rattle.tf_schedule.specs.declared.piece.Piece.{Piece}
 use Rattle.tf_schedule.specs.Piece.{piece_of}
 use Rattle.tf_schedule.specs.SemiActive.{machine_stop}

@@ -7,7 +7,7 @@ use Rattle.tf_engine.specs.Faults.{Refused}
 use Rattle.tf_engine.specs.Refusal.{problem_for, task_for}
 use Rattle.tf_model.specs.declared.problem.Problem.{Problem}
 use Rattle.tf_plan.specs.Order.{IsFeasible}
-use Rattle.tf_problem.specs.ProblemData.{ProblemData, is_job_shop}
+use Rattle.tf_posed.specs.ProblemData.{ProblemData, is_job_shop}
 use Rattle.tf_bounding.specs.RunBounding.{problem_in, problem_task_for}
 use Rattle.tf_bound_text.specs.BoundSheetData.{BoundSheetData}
 use Rattle.tf_evaluate.specs.declared.evaluation.Detail.{Detail}

@@ -6,7 +6,7 @@ use Rattle.std.specs.Prelude.{◌≡◌, ℕ, ◌+◌, ◌<◌, ◌≤◌, ◌==
 use Rattle.std.specs.List.{All, count_by}
 use Rattle.tf_words.specs.Words.{words}
 use Rattle.tf_model.specs.Limit.{limit}
-use Rattle.tf_problem.specs.ProblemData.{ProblemData, IsProblemJob, problem_release, problem_time_on, is_job_shop}
+use Rattle.tf_posed.specs.ProblemData.{ProblemData, IsProblemJob, problem_release, problem_time_on, is_job_shop}
 use Rattle.tf_bound.specs.Steps.{steps_of}
 use Rattle.tf_schedule.specs.declared.piece.Piece.{Piece}
 use Rattle.tf_schedule.specs.SemiActive.{job_stop}

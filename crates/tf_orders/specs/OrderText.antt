@@ -9,7 +9,7 @@ use Rattle.tf_schedule.specs.declared.piece.Piece.{Piece}
 use Rattle.tf_check.specs.Judgement.{IsJudged}
 use Rattle.tf_check.specs.declared.judgement.Fit.{Fit}
 use Rattle.tf_check.specs.declared.judgement.Fit.TheVariants.{Fits}
-use Rattle.tf_problem.specs.ProblemData.{ProblemData}
+use Rattle.tf_posed.specs.ProblemData.{ProblemData}
 use Rattle.tf_text.specs.AnswerText.{line_text}
 use Rattle.tf_text.specs.declared.answer.fault.AnswerFault.{AnswerFault}
 use Rattle.tf_text.specs.declared.answer.fault.AnswerFault.TheVariants as answers

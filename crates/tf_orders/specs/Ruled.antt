@@ -4,7 +4,7 @@ use Rattle.std.specs.Prelude.{◌≡◌, ℕ, max, List, length, map}
 use Rattle.std.specs.List.{All, range_with_len}
 use Rattle.std.specs.List.Sorted.{IsPermutation}
 use Rattle.tf_model.specs.SchedulingTask.{SchedulingTask, job_data, time_of}
-use Rattle.tf_problem.specs.ProblemData.{ProblemData, problem_release, problem_weight, problem_due}
+use Rattle.tf_posed.specs.ProblemData.{ProblemData, problem_release, problem_weight, problem_due}
 use Rattle.tf_problem.specs.ProblemBounds.{problem_work}
 use Rattle.tf_schedule.specs.declared.piece.Piece.{Piece}
 use Rattle.tf_sequencing.specs.declared.rule.Rule.{Rule}

@@ -12,7 +12,7 @@ use Rattle.tf_engine.specs.Headline.{IsCyclic}
 use Rattle.tf_engine.specs.RequestData.{RequestData}
 use Rattle.tf_engine.specs.Refusal.{task_for}
 use Rattle.tf_engine.specs.Runs.{Leaves}
-use Rattle.tf_problem.specs.ProblemData.{ProblemData}
+use Rattle.tf_posed.specs.ProblemData.{ProblemData}
 use Rattle.tf_bound_text.specs.BoundSheetData.{BoundSheetData}
 use Rattle.tf_bounding.specs.Feasible.{IsCyclicTask}
 use Rattle.tf_bounding.specs.RunBounding.{problem_task_for, IsRefusedBound}

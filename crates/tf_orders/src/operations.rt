@@ -2,7 +2,7 @@
 ghost use Rattle.std.specs.Prelude.{◌≡◌, ◌≢◌, ◌≤◌, ◌-◌, length, slice_index, IfOk, IfNone, IfSome};
 ghost use Rattle.std.specs.Prelude.{[], ℕ, IsTrue, MatchOption};
 ghost use Rattle.std.specs.List.{All};
-ghost use Rattle.tf_problem.specs.ProblemData.{IsProblemJob, is_job_shop};
+ghost use Rattle.tf_posed.specs.ProblemData.{IsProblemJob, is_job_shop};
 ghost use Rattle.tf_bound.specs.Steps.{steps_of};
 ghost use Rattle.tf_orders.specs.Operations.{IsNoOperationOrder, IsOperationFlaw, IsOperationOrder};
 ghost use Rattle.tf_orders.specs.Operations.{AreFree, AreNamed, operation_schedule_of, turns_of};

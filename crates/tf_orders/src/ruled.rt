@@ -2,7 +2,7 @@
 ghost use Rattle.std.specs.Prelude.{◌≡◌, ◌≤◌, length, IfOk};
 ghost use Rattle.std.specs.List.{All};
 ghost use Rattle.tf_model.specs.SchedulingTask.{IsJob};
-ghost use Rattle.tf_problem.specs.ProblemData.{IsProblemJob};
+ghost use Rattle.tf_posed.specs.ProblemData.{IsProblemJob};
 ghost use Rattle.tf_orders.specs.Laying.{orders_of, problem_orders_of, problem_schedule_of};
 ghost use Rattle.tf_orders.specs.Laying.{schedule_of};
 ghost use Rattle.tf_orders.specs.Ruled.{AreFirstSeen, IsLaidByRule, IsListedSchedule, IsRuled};

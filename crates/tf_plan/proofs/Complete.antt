@@ -6,7 +6,7 @@ use Rattle.std.proofs.lemmas.Bool.Decides.{nat_tests}
 use Rattle.std.proofs.lemmas.List.{get_or_past}
 use Rattle.tf_model.specs.Whole.{as_time}
 use Rattle.tf_model.specs.declared.problem.Goal.{Goal}
-use Rattle.tf_problem.specs.ProblemCost.{problem_cost, problem_cost_by}
+use Rattle.tf_posed.specs.ProblemCost.{problem_cost, problem_cost_by}
 use Rattle.tf_schedule.proofs.Busy.{some_counted}
 use Rattle.tf_schedule.proofs.Transport.{element}
 use Rattle.tf_fit.specs.ProblemJudged.{IsJudgedBy}
@@ -14,8 +14,8 @@ use Rattle.std.specs.List.{All}
 use Rattle.std.specs.List.Sorted.{IsPermutation}
 use Rattle.std.proofs.lemmas.List.Sorted.{All-permutation}
 use Rattle.tf_model.specs.Timetable.{cells_of}
-use Rattle.tf_problem.specs.ProblemData.{ProblemData}
-use Rattle.tf_problem.specs.FitsProblem.{FitsProblem}
+use Rattle.tf_posed.specs.ProblemData.{ProblemData}
+use Rattle.tf_posed.specs.FitsProblem.{FitsProblem}
 use Rattle.tf_schedule.specs.declared.piece.Piece.{Piece}
 use Rattle.tf_schedule.specs.declared.fit.Misfit.{Misfit}
 use Rattle.tf_schedule.specs.declared.fit.Misfit.TheVariants.{Stranger, JobTwice, WrongAmount, Broken, TooEarly, OutOfOrder, OutOfMemory}

@@ -9,8 +9,8 @@ use Rattle.std.proofs.lemmas.List.Sorted.{Contains-permutation}
 use Rattle.tf_model.specs.Limit.{limit}
 use Rattle.tf_model.specs.ClassTable.{is_shop_env, is_flow_env}
 use Rattle.tf_model.specs.Timetable.{Timetable, cell}
-use Rattle.tf_problem.specs.ProblemData.{ProblemData, IsProblemJob, problem_job, no_problem_job, problem_jobs, problem_release, is_job_shop}
-use Rattle.tf_problem.specs.FitsProblem.{FitsProblem, HasProblemTime, VisitsFirst, IsOnRoute, IsWithoutWait}
+use Rattle.tf_posed.specs.ProblemData.{ProblemData, IsProblemJob, problem_job, no_problem_job, problem_jobs, problem_release, is_job_shop}
+use Rattle.tf_posed.specs.FitsProblem.{FitsProblem, HasProblemTime, VisitsFirst, IsOnRoute, IsWithoutWait}
 use Rattle.tf_problem.proofs.Least.{Contains-problem_jobs}
 use Rattle.tf_bound.specs.Sized.{IsSized}
 use Rattle.tf_bound.specs.Steps.{steps_of}

@@ -5,8 +5,8 @@ use Rattle.std.proofs.lemmas.List.Elements.{All-contains}
 use Rattle.tf_model.specs.Feasible.{IsKept}
 use Rattle.tf_model.specs.Timetable.{Timetable, completion}
 use Rattle.tf_model.proofs.Units.{cell_at_completion}
-use Rattle.tf_problem.specs.ProblemData.{ProblemData, IsProblemJob}
-use Rattle.tf_problem.specs.FitsProblem.{FitsProblem}
+use Rattle.tf_posed.specs.ProblemData.{ProblemData, IsProblemJob}
+use Rattle.tf_posed.specs.FitsProblem.{FitsProblem}
 use Rattle.tf_problem.proofs.Alone.{work-le-completion}
 use Rattle.tf_problem.proofs.Pushed.{needed-by_arcs, some_work}
 use Rattle.tf_bound.specs.Sized.{IsSized}

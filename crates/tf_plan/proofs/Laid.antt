@@ -2,7 +2,7 @@
 use Rattle.std.proofs.Common.{◌≡◌, ℕ, zero, suc, ◌+◌, ◌<◌, ◌≤◌, max, List, [], ◌++◌, length, get_or, refl, subst, arith}
 use Rattle.tf_bound.specs.Sized.{IsSized}
 use Rattle.tf_bound.specs.Steps.{steps_of}
-use Rattle.tf_problem.specs.ProblemData.{ProblemData, problem_job, problem_release}
+use Rattle.tf_posed.specs.ProblemData.{ProblemData, problem_job, problem_release}
 use Rattle.tf_schedule.specs.declared.piece.Piece.{Piece}
 use Rattle.tf_schedule.specs.Drawing.{drawing}
 use Rattle.tf_schedule.specs.SemiActive.{stretch}

@@ -10,7 +10,7 @@ use Rattle.tf_model.specs.Cycle.{Leads, IsCycle}
 use Rattle.tf_model.specs.ClassTable.{is_shop}
 use Rattle.tf_model.specs.declared.problem.Problem.{Problem}
 use Rattle.tf_model.specs.SchedulingTask.{SchedulingTask, time_of}
-use Rattle.tf_problem.specs.ProblemData.{ProblemData, IsProblemJob, problem_jobs}
+use Rattle.tf_posed.specs.ProblemData.{ProblemData, IsProblemJob, problem_jobs}
 use Rattle.tf_schedule.specs.declared.piece.Piece.{Piece}
 use Rattle.tf_schedule.specs.SemiActive.{stretch, start_after, with_operation}
 use Rattle.tf_schedule.specs.Sequence.{operation_of, in_sequence}

@@ -12,7 +12,7 @@ use Rattle.std.proofs.lemmas.List.Sorted.{IsPermutation-refl, IsPermutation-tran
 use Rattle.tf_model.specs.SchedulingTask.{SchedulingTask, IsJob}
 use Rattle.tf_model.specs.Bounds.{stands_in}
 use Rattle.tf_model.proofs.Work.{distinct_apart}
-use Rattle.tf_problem.specs.ProblemData.{ProblemData, IsProblemJob, problem_jobs}
+use Rattle.tf_posed.specs.ProblemData.{ProblemData, IsProblemJob, problem_jobs}
 use Rattle.tf_problem.proofs.Least.{Contains-problem_jobs}
 use Rattle.tf_single.specs.Backward.{AreChosen, rest_of}
 use Rattle.tf_single.proofs.Rest.{in_rest, stands_from, stands_says}

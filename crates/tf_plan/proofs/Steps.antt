@@ -17,7 +17,7 @@ use Rattle.tf_bound.specs.Steps.{steps_of}
 use Rattle.tf_bound.proofs.RouteTime.{share, share_same, share_other, each_time, whole_time}
 use Rattle.tf_bound.proofs.Steps.{sum_next}
 use Rattle.tf_bound.proofs.StepsOf.{steps_timed, steps_routed}
-use Rattle.tf_problem.specs.ProblemData.{ProblemData, ProblemJobData, IsProblemJob, problem_job, no_problem_job, problem_jobs, problem_release}
+use Rattle.tf_posed.specs.ProblemData.{ProblemData, ProblemJobData, IsProblemJob, problem_job, no_problem_job, problem_jobs, problem_release}
 use Rattle.tf_schedule.specs.declared.piece.Piece.{Piece}
 use Rattle.tf_schedule.specs.Piece.{piece_of}
 use Rattle.tf_schedule.specs.Amounts.{work, work_on, greatest_by, least_by, start_of}

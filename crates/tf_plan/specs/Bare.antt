@@ -3,7 +3,7 @@ use Rattle.std.specs.Prelude.{◌≡◌, length}
 use Rattle.tf_model.specs.SchedulingTask.{SchedulingTask}
 use Rattle.tf_model.specs.Sound.{IsSound}
 use Rattle.tf_model.specs.declared.class.Class.TheVariants.{PrecLmax}
-use Rattle.tf_problem.specs.ProblemData.{ProblemData}
+use Rattle.tf_posed.specs.ProblemData.{ProblemData}
 
 -- the task of the class has as many jobs, and the same arcs
 pub record HasSameArcs (k : ProblemData) (t : SchedulingTask) : Type 0 where

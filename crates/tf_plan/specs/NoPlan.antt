@@ -1,5 +1,5 @@
 -- Why a task with an order of its jobs has no plan.
-use Rattle.tf_problem.specs.ProblemData.{ProblemData}
+use Rattle.tf_posed.specs.ProblemData.{ProblemData}
 use Rattle.tf_plan.specs.Plan.{IsTooDear}
 use Rattle.tf_plan.specs.declared.make_plan.NoPlan.{NoPlan}
 use Rattle.tf_plan.specs.declared.make_plan.NoPlan.TheVariants.{TooLarge, OutOfMemory}

@@ -2,8 +2,8 @@
 use Rattle.std.specs.Prelude.{ℕ, List, [], ◌∷◌, IsTrue}
 use Rattle.std.specs.List.{Contains}
 use Rattle.tf_model.specs.Timetable.{Timetable}
-use Rattle.tf_problem.specs.FitsProblem.{FitsProblem}
-use Rattle.tf_problem.specs.ProblemData.{ProblemData}
+use Rattle.tf_posed.specs.FitsProblem.{FitsProblem}
+use Rattle.tf_posed.specs.ProblemData.{ProblemData}
 use Rattle.tf_plan.specs.declared.order.OrderFault.{OrderFault}
 use Rattle.tf_plan.specs.declared.order.OrderFault.TheVariants.{Cycle, OutOfMemory}
 

@@ -2,7 +2,7 @@
 use Rattle.std.specs.Prelude.{◌≡◌, ◌≢◌, ◌⊎◌, ℕ, ◌+◌, ◌-◌, ◌<◌, ◌≤◌, pos, ◌≤ℤ◌, ◌<ℤ◌, List, length, take, drop, sum, slice_index, ◌==◌, if◌then◌else◌}
 use Rattle.std.specs.List.{All, AllPairs, sum_by}
 use Rattle.tf_model.specs.Limit.{limit}
-use Rattle.tf_problem.specs.ProblemData.{ProblemData, IsProblemJob, problem_job, problem_release}
+use Rattle.tf_posed.specs.ProblemData.{ProblemData, IsProblemJob, problem_job, problem_release}
 use Rattle.tf_bound.specs.Steps.{steps_of}
 use Rattle.tf_schedule.specs.declared.piece.Piece.{Piece}
 use Rattle.tf_schedule.specs.Amounts.{work, work_on, greatest_by, least_by, start_of}

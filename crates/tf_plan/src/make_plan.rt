@@ -1,6 +1,6 @@
 //! A plan for every task: the pieces of a search where they fit, else all jobs one after another.
 ghost use Rattle.std.specs.Prelude.{◌≡◌, ◌⊎◌, ◌≤ℤ◌, IfOk, IfSome, IsSomeAnd, MatchResult};
-ghost use Rattle.tf_problem.specs.ProblemCost.{problem_cost};
+ghost use Rattle.tf_posed.specs.ProblemCost.{problem_cost};
 ghost use Rattle.tf_schedule.specs.Drawing.{drawing};
 ghost use Rattle.tf_plan.specs.NoPlan.{HasNoPlan};
 ghost use Rattle.tf_plan.specs.Plan.{FitsAsLaid, IsPlan};

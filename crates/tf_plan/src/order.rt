@@ -1,7 +1,7 @@
 //! An order of all jobs that keeps the arcs.
 ghost use Rattle.std.specs.Prelude.{◌≡◌, map, IfOk, IsTrue, MatchResult};
 ghost use Rattle.tf_model.specs.SchedulingTask.{SchedulingTask};
-ghost use Rattle.tf_problem.specs.ProblemData.{ProblemData, problem_jobs};
+ghost use Rattle.tf_posed.specs.ProblemData.{ProblemData, problem_jobs};
 ghost use Rattle.tf_bound.specs.Sized.{IsSized};
 ghost use Rattle.tf_single.specs.NotSolved.{IsNotSolved};
 ghost use Rattle.tf_plan.specs.declared.order.OrderFault.TheVariants.{OutOfMemory as NoMemory};

@@ -1,7 +1,7 @@
 //! A schedule that fits the task of a problem, and what it costs.
 ghost use Rattle.std.specs.Prelude.{◌≡◌, List, IfOk, IfSome, IsTrue, MatchOption};
-ghost use Rattle.tf_problem.specs.ProblemData.{ProblemData};
-ghost use Rattle.tf_problem.specs.ProblemCost.{IsLowerBound, IsProblemBest, problem_cost};
+ghost use Rattle.tf_posed.specs.ProblemData.{ProblemData};
+ghost use Rattle.tf_posed.specs.ProblemCost.{IsLowerBound, IsProblemBest, problem_cost};
 ghost use Rattle.tf_schedule.specs.declared.piece.Piece.{Piece};
 ghost use Rattle.tf_schedule.specs.Drawing.{drawing};
 ghost use Rattle.tf_plan.specs.Plan.{FitsAsLaid, IsPlan, IsUnplanned};

@@ -1,6 +1,6 @@
 -- The text of a plan, from its parts.
 use Rattle.std.proofs.Common.{◌≡◌, ℕ, ℤ, List, ◌++◌, refl}
-use Rattle.tf_problem.specs.ProblemData.{ProblemData}
+use Rattle.tf_posed.specs.ProblemData.{ProblemData}
 use Rattle.tf_schedule.specs.declared.piece.Piece.{Piece}
 use Rattle.tf_text.specs.AnswerText.{SheetData, answer_text}
 use Rattle.tf_text.specs.declared.answer.layout.Layout.TheVariants.{Two}

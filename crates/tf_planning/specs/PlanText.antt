@@ -4,7 +4,7 @@ use Rattle.std.specs.List.{flat_map}
 use Rattle.std.specs.Fmt.{decimal}
 use Rattle.std.specs.Ordering.{int_eq}
 use Rattle.tf_words.specs.Words.{lines}
-use Rattle.tf_problem.specs.ProblemData.{ProblemData}
+use Rattle.tf_posed.specs.ProblemData.{ProblemData}
 use Rattle.tf_schedule.specs.declared.piece.Piece.{Piece}
 use Rattle.tf_check.specs.Claim.{ByLoad, answer_of}
 use Rattle.tf_text.specs.AnswerText.{SheetData, line_text, answer_text}

@@ -3,8 +3,8 @@ use Rattle.std.specs.Prelude.{◌≡◌, ◌⊎◌, ℕ, ℤ, true, List, length
 use Rattle.std.specs.Io.KnownBytes.{Appends}
 use Rattle.tf_text.specs.Counted.{DeviceUse}
 use Rattle.tf_text.specs.Input.{IsTextOf}
-use Rattle.tf_problem.specs.ProblemData.{ProblemData}
-use Rattle.tf_problem.specs.ProblemCost.{IsProblemBest}
+use Rattle.tf_posed.specs.ProblemData.{ProblemData}
+use Rattle.tf_posed.specs.ProblemCost.{IsProblemBest}
 use Rattle.tf_schedule.specs.declared.piece.Piece.{Piece}
 use Rattle.tf_schedule.specs.Drawing.{drawing}
 use Rattle.tf_engine.specs.declared.fault.RunFault.{RunFault}

@@ -4,7 +4,7 @@ ghost use Rattle.tf_engine.specs.Faults.{stop_of};
 ghost use Rattle.tf_plan.specs.NoPlan.{HasNoPlan};
 ghost use Rattle.tf_plan.specs.Plan.{IsPlan};
 ghost use Rattle.tf_plan.specs.SerialOrder.{IsSerialOrder};
-ghost use Rattle.tf_problem.specs.ProblemData.{ProblemData};
+ghost use Rattle.tf_posed.specs.ProblemData.{ProblemData};
 ghost use Rattle.tf_planning.specs.Planning.{IsMade, StopsPlanning};
 
 use crate::candidate::{Given, best_pieces};

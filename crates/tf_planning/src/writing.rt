@@ -3,8 +3,8 @@ ghost use Rattle.std.specs.Prelude.{◌≡◌, ◌++◌, ℤ, List, length, IfOk
 ghost use Rattle.std.specs.Prelude.{OnOk};
 ghost use Rattle.tf_words.specs.Words.{lines};
 ghost use Rattle.tf_engine.specs.Faults.{stop_of};
-ghost use Rattle.tf_problem.specs.ProblemCost.{IsProblemBest};
-ghost use Rattle.tf_problem.specs.ProblemData.{ProblemData};
+ghost use Rattle.tf_posed.specs.ProblemCost.{IsProblemBest};
+ghost use Rattle.tf_posed.specs.ProblemData.{ProblemData};
 ghost use Rattle.tf_plan.specs.Plan.{IsPlan};
 ghost use Rattle.tf_schedule.specs.Drawing.{drawing};
 ghost use Rattle.tf_schedule.specs.declared.piece.Piece.{Piece};

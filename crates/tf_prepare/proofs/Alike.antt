@@ -29,10 +29,10 @@ use Rattle.tf_model.specs.Prepare.{agreed, given, is_too_many, machines_for, has
 use Rattle.tf_model.proofs.Outcomes.{bind_ok}
 use Rattle.tf_model.proofs.OfClass.{determined}
 use Rattle.tf_model.proofs.Prepared.{none_at, none_mapped, times_right}
-use Rattle.tf_problem.specs.ProblemData.{ProblemData, ProblemJobData, is_job_shop, needs_time}
-use Rattle.tf_problem.specs.Agreement.{posed, posed_job}
-use Rattle.tf_problem.proofs.Conditions.{no_job_shop, no_need}
-use Rattle.tf_problem.proofs.Agreement.{is_class_goal, class_goal}
+use Rattle.tf_posed.specs.ProblemData.{ProblemData, ProblemJobData, is_job_shop, needs_time}
+use Rattle.tf_posed.specs.Agreement.{posed, posed_job}
+use Rattle.tf_posed.proofs.Conditions.{no_job_shop, no_need}
+use Rattle.tf_posed.proofs.Agreement.{is_class_goal, class_goal}
 use Rattle.tf_bound.specs.Sized.{IsSized}
 use Rattle.tf_prepare.specs.TimedData.{self_timed}
 use Rattle.tf_prepare.specs.Preparing.{uses_weight, uses_due, machines_in, wrong_times_in, lacking_in, missing_in, times_of, is_idle, idle_in, where_needed, jobs_refusal_in, job_in, jobs_in, task_in, prepared_in}

@@ -13,9 +13,9 @@ use Rattle.tf_model.specs.ClassTable.{notation_of, is_shop, is_sum, is_weighted,
 use Rattle.tf_model.specs.Sound.{IsSound}
 use Rattle.tf_model.proofs.Costs.{sum_by-all_jobs}
 use Rattle.tf_model.proofs.Sums.{sum_by-same_all}
-use Rattle.tf_problem.specs.ProblemData.{ProblemData, IsProblemSound, needs_time}
-use Rattle.tf_problem.specs.Agreement.{posed_job}
-use Rattle.tf_problem.proofs.Conditions.{counted, All-all_jobs, no_job_shop, no_need, size, posed-sound}
+use Rattle.tf_posed.specs.ProblemData.{ProblemData, IsProblemSound, needs_time}
+use Rattle.tf_posed.specs.Agreement.{posed_job}
+use Rattle.tf_posed.proofs.Conditions.{counted, All-all_jobs, no_job_shop, no_need, size, posed-sound}
 use Rattle.tf_bound.specs.Sized.{IsSized, IsSizedJob, work, all_work}
 
 mapped-sum : {X Y : Type 0} (g : Y → ℕ) (f : X → Y) (xs : List X)

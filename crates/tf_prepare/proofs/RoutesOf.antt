@@ -11,7 +11,7 @@ use Rattle.tf_model.proofs.Prepared.{neither, none_at, none_mapped}
 use Rattle.tf_model.specs.declared.prepare.Refusal.TheVariants.{WrongTimes, ZeroTime}
 use Rattle.tf_model.specs.declared.problem.Problem.{Problem}
 use Rattle.tf_model.specs.Limit.{most_machines}
-use Rattle.tf_problem.specs.ProblemData.{ProblemData, ProblemJobData}
+use Rattle.tf_posed.specs.ProblemData.{ProblemData, ProblemJobData}
 use Rattle.tf_routes.specs.declared.route.Step.{Step}
 use Rattle.tf_routes.specs.RoutedData.{AreSteps}
 use Rattle.tf_prepare.specs.Preparing.{is_beyond, is_idle_route, job_in, machines_of, missing_in, much_in, routed_jobs_in, routed_task_in, routes_refusal_in, times_by, where_needed}

@@ -6,7 +6,7 @@ use Rattle.tf_model.specs.InstanceData.{InstanceData}
 use Rattle.tf_model.specs.SchedulingTask.{SchedulingTask}
 use Rattle.tf_model.specs.Sound.{IsSound}
 use Rattle.tf_model.specs.Prepare.{prepared}
-use Rattle.tf_problem.specs.Agreement.{posed}
+use Rattle.tf_posed.specs.Agreement.{posed}
 use Rattle.tf_bound.specs.Sized.{IsSized}
 use Rattle.tf_prepare.specs.TimedData.{self_timed}
 use Rattle.tf_prepare.specs.Preparing.{prepared_in}

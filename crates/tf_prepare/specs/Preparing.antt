@@ -19,7 +19,7 @@ use Rattle.tf_model.specs.declared.prepare.Field.{Field}
 use Rattle.tf_model.specs.declared.prepare.Field.TheVariants.{Weight, Due, Release}
 use Rattle.tf_model.specs.declared.prepare.Refusal.{Refusal}
 use Rattle.tf_model.specs.declared.prepare.Refusal.TheVariants.{MachineCount, WrongTimes, MissingField, ZeroTime, TotalTooLarge, OutOfMemory}
-use Rattle.tf_problem.specs.ProblemData.{ProblemData, ProblemJobData, is_job_shop, needs_time}
+use Rattle.tf_posed.specs.ProblemData.{ProblemData, ProblemJobData, is_job_shop, needs_time}
 use Rattle.tf_routes.specs.declared.route.Step.{Step}
 use Rattle.tf_bound.specs.Sized.{IsSized}
 use Rattle.tf_prepare.specs.TimedData.{TimedData}

@@ -4,11 +4,12 @@ use Rattle.std.proofs.lemmas.Int.{ints}
 use Rattle.tf_model.specs.Timetable.{Timetable, completion}
 use Rattle.tf_model.proofs.Sums.{sum_by_le_all}
 use Rattle.tf_model.proofs.Units.{completion-le-row}
-use Rattle.tf_problem.specs.ProblemData.{ProblemData, IsProblemSound, IsProblemJob, problem_jobs, problem_release}
-use Rattle.tf_problem.specs.FitsProblem.{FitsProblem}
-use Rattle.tf_problem.specs.ProblemCost.{problem_cost, penalty, IsLowerBound}
+use Rattle.tf_posed.specs.ProblemData.{ProblemData, IsProblemSound, IsProblemJob, problem_jobs, problem_release}
+use Rattle.tf_posed.specs.FitsProblem.{FitsProblem}
+use Rattle.tf_posed.specs.ProblemCost.{problem_cost, penalty, IsLowerBound}
 use Rattle.tf_problem.specs.ProblemBounds.{is_sum_goal, problem_work, alone_cost}
-use Rattle.tf_problem.proofs.Relaxing.{All-problem_jobs, problem_release-le-row}
+use Rattle.tf_posed.proofs.Conditions.{All-problem_jobs}
+use Rattle.tf_problem.proofs.Relaxing.{problem_release-le-row}
 use Rattle.tf_problem.proofs.Routes.{timed-or-free}
 use Rattle.tf_problem.proofs.Pushed.{work-le-rows, some_work}
 use Rattle.tf_problem.proofs.Prices.{sum-cost}

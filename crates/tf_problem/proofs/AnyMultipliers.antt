@@ -4,8 +4,8 @@ use Rattle.std.proofs.lemmas.Bool.{false≢true, true≢false, and_parts, or_rig
 use Rattle.tf_model.specs.declared.problem.Env.{Env}
 use Rattle.tf_model.specs.declared.problem.Env.TheVariants.{Single, Parallel, Uniform, Unrelated, Flow, OpenShop, JobShop}
 use Rattle.tf_model.specs.ClassTable.{is_single_env, is_parallel_env}
-use Rattle.tf_problem.specs.ProblemData.{ProblemData, IsProblemSound, is_covered_env, is_covered_goal}
-use Rattle.tf_problem.specs.ProblemCost.{problem_cost, IsLowerBound}
+use Rattle.tf_posed.specs.ProblemData.{ProblemData, IsProblemSound, is_covered_env, is_covered_goal}
+use Rattle.tf_posed.specs.ProblemCost.{problem_cost, IsLowerBound}
 use Rattle.tf_problem.specs.ProblemBounds.{is_by_machine, is_tardy_goal, AreMultipliers, arc_multiplier_value, shared_multiplier_value, any_multiplier_value}
 use Rattle.tf_problem.proofs.Multipliers.{arc_multipliers-bound}
 use Rattle.tf_problem.proofs.SharedMultipliers.{shared_multipliers-bound}

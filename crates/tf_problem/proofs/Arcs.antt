@@ -6,8 +6,8 @@ use Rattle.std.proofs.lemmas.List.Sums.{sum_by-cons}
 use Rattle.std.proofs.lemmas.List.Elements.{All-nil, All-head, All-tail, All-contains_itself}
 use Rattle.tf_model.specs.Timetable.{Timetable, completion}
 use Rattle.tf_model.proofs.Sums.{sum_by-zero_terms, sum_by-plus, sum_by-times, sum_by-same}
-use Rattle.tf_problem.specs.ProblemData.{ProblemData, IsProblemSound, IsProblemJob, problem_jobs}
-use Rattle.tf_problem.specs.FitsProblem.{FitsProblem}
+use Rattle.tf_posed.specs.ProblemData.{ProblemData, IsProblemSound, IsProblemJob, problem_jobs}
+use Rattle.tf_posed.specs.FitsProblem.{FitsProblem}
 use Rattle.tf_problem.proofs.Pushed.{behind-arc}
 use Rattle.tf_problem.specs.ProblemBounds.{problem_work, problem_arcs, over_arcs, arcs_from, arcs_to, arcs_gain}
 

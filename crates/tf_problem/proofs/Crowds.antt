@@ -14,9 +14,9 @@ use Rattle.tf_model.proofs.Units.{cell_with, cell_at_completion, completion-le-r
 use Rattle.tf_model.proofs.Work.{IsDistinct, work-le-rows}
 use Rattle.tf_model.proofs.Split.{take_cell}
 use Rattle.tf_check.specs.Bound.{least_number}
-use Rattle.tf_problem.specs.ProblemData.{ProblemData, IsProblemSound, IsProblemJob, problem_time, problem_release, problem_due}
-use Rattle.tf_problem.specs.FitsProblem.{FitsProblem}
-use Rattle.tf_problem.specs.ProblemCost.{problem_cost, IsLowerBound}
+use Rattle.tf_posed.specs.ProblemData.{ProblemData, IsProblemSound, IsProblemJob, problem_time, problem_release, problem_due}
+use Rattle.tf_posed.specs.FitsProblem.{FitsProblem}
+use Rattle.tf_posed.specs.ProblemCost.{problem_cost, IsLowerBound}
 use Rattle.tf_problem.specs.ProblemBounds.{crowd_value, is_alike, is_max_goal}
 use Rattle.tf_problem.proofs.ProblemLists.{units_before, units_from, unit_at, unit_cell, last_by, cell_width}
 use Rattle.tf_problem.proofs.Relaxing.{problem_release-le-row}

@@ -13,10 +13,11 @@ use Rattle.tf_model.specs.ClassTable.{is_shop_env, is_single_env, is_parallel_en
 use Rattle.tf_model.specs.Feasible.{FitsBroken}
 use Rattle.tf_model.specs.Cost.{Makespan, Lateness, cost, greatest, total_price}
 use Rattle.tf_model.proofs.Sums.{sum_by_le_all}
-use Rattle.tf_problem.specs.ProblemData.{ProblemData, IsProblemSound, problem_jobs, problem_job, problem_time, problem_release}
-use Rattle.tf_problem.specs.ProblemCost.{problem_cost, problem_cost_by, lateness, penalty}
+use Rattle.tf_posed.specs.ProblemData.{ProblemData, IsProblemSound, problem_jobs, problem_job, problem_time, problem_release}
+use Rattle.tf_posed.specs.ProblemCost.{problem_cost, problem_cost_by, lateness, penalty}
 use Rattle.tf_problem.specs.Relaxed.{IsRelaxation, task_by, only_time, window_task, load_task, rank_task, weighed_task}
-use Rattle.tf_problem.proofs.Relaxing.{All-problem_jobs, jobs-task_by, job-task_by, fits-dropped, whole-dropped, greatest-dropped}
+use Rattle.tf_posed.proofs.Conditions.{All-problem_jobs}
+use Rattle.tf_problem.proofs.Relaxing.{jobs-task_by, job-task_by, fits-dropped, whole-dropped, greatest-dropped}
 
 pub single_no_shop : (e : Env) → IsTrue (is_single_env e) → IsFalse (is_shop_env e)
 single_no_shop Single h = refl

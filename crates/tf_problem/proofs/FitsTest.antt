@@ -10,8 +10,8 @@ use Rattle.std.proofs.lemmas.List.Sorted.{IsPermutation-refl}
 use Rattle.tf_model.specs.ClassTable.{is_shop_env}
 use Rattle.tf_model.specs.Timetable.{Row, Timetable, cell, cells_of, units, all_units}
 use Rattle.tf_model.specs.Feasible.{IsKept}
-use Rattle.tf_problem.specs.ProblemData.{ProblemData, IsProblemJob, problem_jobs, problem_job, problem_time, problem_time_on, route_of}
-use Rattle.tf_problem.specs.FitsProblem.{FitsProblem, HasProblemTime, VisitsFirst}
+use Rattle.tf_posed.specs.ProblemData.{ProblemData, IsProblemJob, problem_jobs, problem_job, problem_time, problem_time_on, route_of}
+use Rattle.tf_posed.specs.FitsProblem.{FitsProblem, HasProblemTime, VisitsFirst}
 
 -- ---- tests
 

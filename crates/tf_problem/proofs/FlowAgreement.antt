@@ -7,10 +7,10 @@ use Rattle.tf_model.specs.declared.problem.Goal.{Goal}
 use Rattle.tf_model.specs.declared.problem.Goal.TheVariants as goals
 use Rattle.tf_model.specs.ClassTable.{is_shop_env}
 use Rattle.tf_model.specs.Timetable.{Timetable}
-use Rattle.tf_problem.specs.ProblemData.{ProblemData, IsProblemJob, problem_job, route_by, route_of}
-use Rattle.tf_problem.specs.FitsProblem.{FitsProblem, VisitsFirst}
-use Rattle.tf_problem.specs.ProblemCost.{problem_cost_by}
-use Rattle.tf_problem.specs.Agreement.{in_flow_shop, IsSameProblem}
+use Rattle.tf_posed.specs.ProblemData.{ProblemData, IsProblemJob, problem_job, route_by, route_of}
+use Rattle.tf_posed.specs.FitsProblem.{FitsProblem, VisitsFirst}
+use Rattle.tf_posed.specs.ProblemCost.{problem_cost_by}
+use Rattle.tf_problem.specs.FlowAgreement.{in_flow_shop, IsSameProblem}
 
 module _ (k : ProblemData) (shop : IsTrue (is_shop_env k.problem.env))
     (routes : (j : ℕ) → IsProblemJob k j → route_of k j ≡ range_with_len 0 k.machines)

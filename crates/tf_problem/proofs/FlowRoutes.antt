@@ -8,8 +8,8 @@ use Rattle.tf_model.specs.declared.problem.Env.TheVariants.{Flow}
 use Rattle.tf_model.specs.Timetable.{Timetable, cell, completion}
 use Rattle.tf_model.specs.ClassTable.{is_single_env, is_shop_env, is_flow_env}
 use Rattle.tf_model.proofs.Units.{completion-le-row}
-use Rattle.tf_problem.specs.ProblemData.{ProblemData, IsProblemSound, IsProblemJob, route_by, route_of, problem_time_on, problem_release}
-use Rattle.tf_problem.specs.FitsProblem.{FitsProblem, VisitsFirst}
+use Rattle.tf_posed.specs.ProblemData.{ProblemData, IsProblemSound, IsProblemJob, route_by, route_of, problem_time_on, problem_release}
+use Rattle.tf_posed.specs.FitsProblem.{FitsProblem, VisitsFirst}
 use Rattle.tf_problem.specs.ProblemBounds.{before, behind, head, tail, is_by_machine}
 use Rattle.tf_problem.proofs.ProblemLists.{range-append}
 use Rattle.tf_problem.proofs.Relaxing.{problem_release-le-row}

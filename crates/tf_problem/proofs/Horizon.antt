@@ -13,11 +13,12 @@ use Rattle.tf_model.specs.Timetable.{Row, Timetable, cells_of, units, completion
 use Rattle.tf_model.specs.Cost.{greatest}
 use Rattle.tf_model.proofs.Sums.{sum_by_le_all, sum_by-swap, sum_by-same_all}
 use Rattle.tf_model.proofs.Units.{cell-le-cells_of}
-use Rattle.tf_problem.specs.ProblemData.{ProblemData, IsProblemSound, IsProblemJob, problem_jobs, problem_job, problem_time, problem_time_on, time_over, problem_release}
-use Rattle.tf_problem.specs.FitsProblem.{FitsProblem}
-use Rattle.tf_problem.specs.ProblemCost.{problem_cost, problem_cost_by, lateness, penalty, IsLowerBound}
+use Rattle.tf_posed.specs.ProblemData.{ProblemData, IsProblemSound, IsProblemJob, problem_jobs, problem_job, problem_time, problem_time_on, time_over, problem_release}
+use Rattle.tf_posed.specs.FitsProblem.{FitsProblem}
+use Rattle.tf_posed.specs.ProblemCost.{problem_cost, problem_cost_by, lateness, penalty, IsLowerBound}
 use Rattle.tf_problem.specs.ProblemBounds.{problem_work, last_release, horizon}
-use Rattle.tf_problem.proofs.Relaxing.{All-problem_jobs, at-le-greatest, greatest_reached}
+use Rattle.tf_posed.proofs.Conditions.{All-problem_jobs}
+use Rattle.tf_problem.proofs.Relaxing.{at-le-greatest, greatest_reached}
 use Rattle.tf_problem.proofs.Least.{of_map, Contains-problem_jobs}
 use Rattle.tf_problem.proofs.Rising.{penalty-rises}
 use Rattle.tf_problem.proofs.Thinned.{is_idle, thinned, IsThinned, thinned-is, All-thinned, sum_by-thinned, length-thinned, idle-none, busy-cell, order-back, order-on, completion-thinned}

@@ -6,9 +6,9 @@ use Rattle.tf_model.specs.declared.problem.Env.TheVariants.{Single}
 use Rattle.tf_model.specs.declared.problem.Goal.TheVariants as goals
 use Rattle.tf_model.specs.ClassTable.{plain_problem}
 use Rattle.tf_model.specs.Timetable.{Timetable}
-use Rattle.tf_problem.specs.ProblemData.{ProblemData, ProblemJobData, IsProblemSound, IsProblemJob, problem_job, problem_time}
-use Rattle.tf_problem.specs.FitsProblem.{FitsProblem}
-use Rattle.tf_problem.specs.ProblemCost.{IsLowerBound, IsProblemBest}
+use Rattle.tf_posed.specs.ProblemData.{ProblemData, ProblemJobData, IsProblemSound, IsProblemJob, problem_job, problem_time}
+use Rattle.tf_posed.specs.FitsProblem.{FitsProblem}
+use Rattle.tf_posed.specs.ProblemCost.{IsLowerBound, IsProblemBest}
 use Rattle.tf_problem.specs.ProblemBounds.{numerator, start_price, horizon, prices_value}
 use Rattle.tf_problem.proofs.FitsTest.{fits-passed}
 use Rattle.tf_problem.proofs.Thinned.{thinned}

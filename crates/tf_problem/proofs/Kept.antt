@@ -10,9 +10,9 @@ use Rattle.tf_model.specs.Timetable.{Timetable, cells_of, all_units, completion}
 use Rattle.tf_model.proofs.Sums.{sum_by_le_all}
 use Rattle.tf_model.proofs.Work.{cells-le-length, work-le-rows}
 use Rattle.tf_check.specs.Bound.{least_number}
-use Rattle.tf_problem.specs.ProblemData.{ProblemData, IsProblemSound, IsProblemJob, problem_jobs, problem_job, problem_time, problem_release}
-use Rattle.tf_problem.specs.FitsProblem.{FitsProblem}
-use Rattle.tf_problem.specs.ProblemCost.{problem_cost, problem_cost_by, unit_penalty, IsLowerBound}
+use Rattle.tf_posed.specs.ProblemData.{ProblemData, IsProblemSound, IsProblemJob, problem_jobs, problem_job, problem_time, problem_release}
+use Rattle.tf_posed.specs.FitsProblem.{FitsProblem}
+use Rattle.tf_posed.specs.ProblemCost.{problem_cost, problem_cost_by, unit_penalty, IsLowerBound}
 use Rattle.tf_problem.specs.ProblemBounds.{is_alike}
 use Rattle.tf_problem.proofs.Relaxing.{problem_release-le-row}
 use Rattle.tf_problem.proofs.Least.{least_number-le}

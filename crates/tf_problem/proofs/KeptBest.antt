@@ -17,11 +17,11 @@ use Rattle.tf_model.specs.Whole.{as_time}
 use Rattle.tf_model.specs.Timetable.{Timetable, cells_of, completion}
 use Rattle.tf_model.proofs.Loads.{once}
 use Rattle.tf_check.specs.Bound.{least_number}
-use Rattle.tf_problem.specs.ProblemData.{ProblemData, IsProblemSound, IsProblemJob, problem_jobs, problem_job, problem_time, problem_release, route_by}
-use Rattle.tf_problem.specs.FitsProblem.{FitsProblem, VisitsFirst}
-use Rattle.tf_problem.specs.ProblemCost.{problem_cost, problem_cost_by, unit_penalty, IsLowerBound, IsProblemBest}
+use Rattle.tf_posed.specs.ProblemData.{ProblemData, IsProblemSound, IsProblemJob, problem_jobs, problem_job, problem_time, problem_release, route_by}
+use Rattle.tf_posed.specs.FitsProblem.{FitsProblem, VisitsFirst}
+use Rattle.tf_posed.specs.ProblemCost.{problem_cost, problem_cost_by, unit_penalty, IsLowerBound, IsProblemBest}
 use Rattle.tf_problem.specs.ProblemBounds.{is_alike}
-use Rattle.tf_problem.proofs.Relaxing.{All-problem_jobs}
+use Rattle.tf_posed.proofs.Conditions.{All-problem_jobs}
 use Rattle.tf_problem.proofs.Windows.{alike_no_shop}
 use Rattle.tf_problem.specs.Kept.{IsRisingBy, due_time, room_by_due, kept_value}
 use Rattle.tf_problem.proofs.Kept.{kept-bound}

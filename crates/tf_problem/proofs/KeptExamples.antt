@@ -9,9 +9,9 @@ use Rattle.tf_model.specs.ClassTable.{plain_problem}
 use Rattle.std.specs.List.{AllPairs}
 use Rattle.tf_model.specs.Timetable.{Timetable}
 use Rattle.tf_model.proofs.Loads.{once}
-use Rattle.tf_problem.specs.ProblemData.{ProblemData, ProblemJobData, IsProblemSound, IsProblemJob, problem_job, problem_time}
-use Rattle.tf_problem.specs.ProblemCost.{IsProblemBest}
-use Rattle.tf_problem.proofs.Relaxing.{All-problem_jobs}
+use Rattle.tf_posed.specs.ProblemData.{ProblemData, ProblemJobData, IsProblemSound, IsProblemJob, problem_job, problem_time}
+use Rattle.tf_posed.specs.ProblemCost.{IsProblemBest}
+use Rattle.tf_posed.proofs.Conditions.{All-problem_jobs}
 use Rattle.tf_problem.proofs.FitsTest.{fits-passed}
 use Rattle.tf_problem.specs.Kept.{kept, kept_value, kept_weight}
 use Rattle.tf_problem.specs.Ranks.{rank_value, IsFalling}

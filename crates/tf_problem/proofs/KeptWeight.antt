@@ -8,8 +8,8 @@ use Rattle.tf_model.specs.declared.problem.Goal.TheVariants as goals
 use Rattle.tf_model.specs.Distinct.{IsDistinct}
 use Rattle.tf_model.specs.Timetable.{Timetable, completion}
 use Rattle.tf_check.specs.Bound.{least_number}
-use Rattle.tf_problem.specs.ProblemData.{ProblemData, IsProblemSound, IsProblemJob, problem_jobs, problem_job, problem_time, problem_release, problem_weight, weight_by}
-use Rattle.tf_problem.specs.ProblemCost.{problem_cost, problem_cost_by, unit_penalty, IsLowerBound}
+use Rattle.tf_posed.specs.ProblemData.{ProblemData, IsProblemSound, IsProblemJob, problem_jobs, problem_job, problem_time, problem_release, problem_weight, weight_by}
+use Rattle.tf_posed.specs.ProblemCost.{problem_cost, problem_cost_by, unit_penalty, IsLowerBound}
 use Rattle.tf_problem.specs.ProblemBounds.{is_alike}
 use Rattle.tf_problem.proofs.Least.{least_number-le}
 use Rattle.tf_problem.proofs.ProblemLists.{sum_by-le-jobs}

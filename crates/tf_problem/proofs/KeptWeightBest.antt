@@ -12,10 +12,10 @@ use Rattle.tf_model.specs.Distinct.{IsDistinct}
 use Rattle.tf_model.specs.Timetable.{Timetable, completion}
 use Rattle.tf_model.proofs.Loads.{once}
 use Rattle.tf_model.proofs.Sums.{sum_by_le_all}
-use Rattle.tf_problem.specs.ProblemData.{ProblemData, IsProblemSound, IsProblemJob, problem_jobs, problem_job, problem_time, problem_weight}
-use Rattle.tf_problem.specs.ProblemCost.{problem_cost, problem_cost_by, unit_penalty, IsLowerBound, IsProblemBest}
+use Rattle.tf_posed.specs.ProblemData.{ProblemData, IsProblemSound, IsProblemJob, problem_jobs, problem_job, problem_time, problem_weight}
+use Rattle.tf_posed.specs.ProblemCost.{problem_cost, problem_cost_by, unit_penalty, IsLowerBound, IsProblemBest}
 use Rattle.tf_problem.specs.ProblemBounds.{is_alike}
-use Rattle.tf_problem.proofs.Relaxing.{All-problem_jobs}
+use Rattle.tf_posed.proofs.Conditions.{All-problem_jobs}
 use Rattle.tf_problem.specs.Kept.{IsRisingBy, due_time, room_by_due, least_choice, least_late, kept_weight}
 use Rattle.tf_problem.proofs.Reached.{AreTimely}
 use Rattle.tf_problem.proofs.KeptBest.{chosen, others, chosen-sum, sum-none, Played, played}

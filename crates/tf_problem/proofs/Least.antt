@@ -10,8 +10,8 @@ use Rattle.tf_model.specs.declared.problem.Goal.{Goal}
 use Rattle.tf_model.specs.declared.problem.Goal.TheVariants as goals
 use Rattle.tf_model.specs.Timetable.{Timetable, completion}
 use Rattle.tf_check.specs.Bound.{least_number, least}
-use Rattle.tf_problem.specs.ProblemData.{ProblemData, IsProblemJob, problem_jobs, due_by, problem_due}
-use Rattle.tf_problem.specs.ProblemCost.{problem_cost, problem_cost_by, lateness}
+use Rattle.tf_posed.specs.ProblemData.{ProblemData, IsProblemJob, problem_jobs, due_by, problem_due}
+use Rattle.tf_posed.specs.ProblemCost.{problem_cost, problem_cost_by, lateness}
 use Rattle.tf_problem.specs.ProblemBounds.{is_max_goal}
 use Rattle.tf_problem.proofs.Relaxing.{at-le-greatest}
 

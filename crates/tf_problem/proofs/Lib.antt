@@ -19,8 +19,6 @@ pub mod MachinePrices
 pub mod FitsTest
 pub mod ProblemExamples
 pub mod HorizonExamples
-pub mod Conditions
-pub mod Agreement
 pub mod FlowAgreement
 pub mod Crowds
 pub mod Pushed

@@ -13,13 +13,13 @@ use Rattle.tf_model.specs.Timetable.{Timetable, cell, cells_of, all_units, compl
 use Rattle.tf_model.proofs.Sums.{sum_by_le_all, sum_by-plus, sum_by-times}
 use Rattle.tf_model.proofs.Units.{cell_at_completion, sum_by-take-completion}
 use Rattle.tf_model.proofs.Split.{take_cell}
-use Rattle.tf_problem.specs.ProblemData.{ProblemData, IsProblemSound, IsProblemJob, problem_jobs, problem_time, problem_time_on, time_over, problem_release}
-use Rattle.tf_problem.specs.FitsProblem.{FitsProblem}
-use Rattle.tf_problem.specs.ProblemCost.{problem_cost, penalty, IsLowerBound}
+use Rattle.tf_posed.specs.ProblemData.{ProblemData, IsProblemSound, IsProblemJob, problem_jobs, problem_time, problem_time_on, time_over, problem_release}
+use Rattle.tf_posed.specs.FitsProblem.{FitsProblem}
+use Rattle.tf_posed.specs.ProblemCost.{problem_cost, penalty, IsLowerBound}
 use Rattle.tf_problem.specs.ProblemBounds.{is_by_machine, is_sum_goal, head, tail, problem_work, price_of_rows}
 use Rattle.tf_problem.specs.MachinePrices.{end_from, price_from, cheapest_from, machine_prices_value}
 use Rattle.tf_problem.proofs.ProblemLists.{cells_from}
-use Rattle.tf_problem.proofs.Relaxing.{All-problem_jobs}
+use Rattle.tf_posed.proofs.Conditions.{All-problem_jobs}
 use Rattle.tf_problem.proofs.Least.{least_number-le}
 use Rattle.tf_problem.proofs.Multipliers.{share-le}
 use Rattle.tf_problem.proofs.Rising.{penalty-rises}

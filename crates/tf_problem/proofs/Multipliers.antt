@@ -21,13 +21,14 @@ use Rattle.tf_model.proofs.Costs.{All-all_jobs}
 use Rattle.tf_model.proofs.Loads.{IsDistinct-all_jobs, div_ceil_least}
 use Rattle.tf_model.proofs.Pairs.{pairs-le-weighted}
 use Rattle.tf_check.specs.Bound.{least_number}
-use Rattle.tf_problem.specs.ProblemData.{ProblemData, IsProblemSound, IsProblemJob, problem_jobs, problem_time_on, weight_by, problem_weight, due_by, problem_due}
-use Rattle.tf_problem.specs.FitsProblem.{FitsProblem}
-use Rattle.tf_problem.specs.ProblemCost.{problem_cost, problem_cost_by, IsLowerBound}
+use Rattle.tf_posed.specs.ProblemData.{ProblemData, IsProblemSound, IsProblemJob, problem_jobs, problem_time_on, weight_by, problem_weight, due_by, problem_due}
+use Rattle.tf_posed.specs.FitsProblem.{FitsProblem}
+use Rattle.tf_posed.specs.ProblemCost.{problem_cost, problem_cost_by, IsLowerBound}
 use Rattle.tf_problem.specs.Relaxed.{weighed_task, only_time}
 use Rattle.tf_problem.specs.ProblemBounds.{head, tail, int_sum, share_up, numerator, arcs_from, arcs_to, arcs_gain, moved, AreMultipliers, owed_dues, arc_multiplier_value, is_tardy_goal, is_by_machine}
 use Rattle.tf_problem.proofs.ProblemLists.{units_from, drop_cell}
-use Rattle.tf_problem.proofs.Relaxing.{All-problem_jobs, length-task_by, job-task_by, problem-job}
+use Rattle.tf_posed.proofs.Conditions.{All-problem_jobs}
+use Rattle.tf_problem.proofs.Relaxing.{length-task_by, job-task_by, problem-job}
 use Rattle.tf_problem.proofs.Dropped.{total-task_by}
 use Rattle.tf_problem.proofs.Least.{least_number-le-job}
 use Rattle.tf_problem.proofs.Routes.{units-on, head-le-row, tail-after-row, route-le-completion}

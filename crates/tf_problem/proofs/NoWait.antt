@@ -11,8 +11,8 @@ use Rattle.tf_model.specs.Timetable.{Row, Timetable, cell, cells_of, units, comp
 use Rattle.tf_model.specs.ClassTable.{is_single_env, is_shop_env, is_flow_env}
 use Rattle.tf_model.proofs.Sums.{sum_by_le_all, sum_by-swap}
 use Rattle.tf_model.proofs.Units.{cell-le-cells_of, cell_with, cell_at_completion, completion-le-row}
-use Rattle.tf_problem.specs.ProblemData.{ProblemData, IsProblemSound, IsProblemJob, problem_time_on, time_over}
-use Rattle.tf_problem.specs.FitsProblem.{FitsProblem}
+use Rattle.tf_posed.specs.ProblemData.{ProblemData, IsProblemSound, IsProblemJob, problem_time_on, time_over}
+use Rattle.tf_posed.specs.FitsProblem.{FitsProblem}
 use Rattle.tf_problem.specs.ProblemBounds.{is_by_machine}
 use Rattle.tf_problem.specs.Potentials.{start_delay}
 use Rattle.tf_problem.proofs.ProblemLists.{range-append, cell_width}

@@ -7,9 +7,9 @@ use Rattle.tf_model.proofs.Sums.{sum_by_le_all}
 use Rattle.tf_model.proofs.Work.{IsDistinct, work-le-rows}
 use Rattle.tf_model.proofs.Split.{take_cell}
 use Rattle.tf_check.specs.Bound.{least_number, least}
-use Rattle.tf_problem.specs.ProblemData.{ProblemData, IsProblemSound, IsProblemJob, problem_time_on, problem_due}
-use Rattle.tf_problem.specs.FitsProblem.{FitsProblem}
-use Rattle.tf_problem.specs.ProblemCost.{problem_cost, IsLowerBound}
+use Rattle.tf_posed.specs.ProblemData.{ProblemData, IsProblemSound, IsProblemJob, problem_time_on, problem_due}
+use Rattle.tf_posed.specs.FitsProblem.{FitsProblem}
+use Rattle.tf_posed.specs.ProblemCost.{problem_cost, IsLowerBound}
 use Rattle.tf_problem.specs.ProblemBounds.{head, tail, machine_value, is_by_machine, is_max_goal}
 use Rattle.tf_problem.proofs.ProblemLists.{units_before, units_from, last_by}
 use Rattle.tf_problem.proofs.Least.{least_number-le, least-le, late-le-cost}

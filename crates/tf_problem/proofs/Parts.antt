@@ -11,9 +11,9 @@ use Rattle.tf_model.proofs.Sums.{sum_by_le_all}
 use Rattle.tf_model.proofs.Units.{sum_by-take-completion}
 use Rattle.tf_model.proofs.Work.{cells-le-length, work-le-rows}
 use Rattle.tf_model.proofs.Split.{take_cell}
-use Rattle.tf_problem.specs.ProblemData.{ProblemData, IsProblemSound, IsProblemJob, problem_time, problem_release, problem_due}
-use Rattle.tf_problem.specs.FitsProblem.{FitsProblem}
-use Rattle.tf_problem.specs.ProblemCost.{problem_cost, IsLowerBound}
+use Rattle.tf_posed.specs.ProblemData.{ProblemData, IsProblemSound, IsProblemJob, problem_time, problem_release, problem_due}
+use Rattle.tf_posed.specs.FitsProblem.{FitsProblem}
+use Rattle.tf_posed.specs.ProblemCost.{problem_cost, IsLowerBound}
 use Rattle.tf_problem.specs.ProblemBounds.{is_alike, is_max_goal}
 use Rattle.tf_problem.specs.Parts.{part_within, part_unbroken, part_of, IsMoreThanRoom}
 use Rattle.tf_problem.proofs.ProblemLists.{cells_from}

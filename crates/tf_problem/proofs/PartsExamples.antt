@@ -7,13 +7,13 @@ use Rattle.tf_model.specs.declared.problem.Goal.TheVariants as goals
 use Rattle.tf_model.specs.ClassTable.{plain_problem}
 use Rattle.tf_model.specs.Timetable.{Timetable}
 use Rattle.tf_model.proofs.Loads.{once}
-use Rattle.tf_problem.specs.ProblemData.{ProblemData, ProblemJobData, IsProblemSound, IsProblemJob, problem_job, problem_jobs, problem_time}
-use Rattle.tf_problem.specs.FitsProblem.{FitsProblem}
-use Rattle.tf_problem.specs.ProblemCost.{problem_cost, IsLowerBound, IsProblemBest}
+use Rattle.tf_posed.specs.ProblemData.{ProblemData, ProblemJobData, IsProblemSound, IsProblemJob, problem_job, problem_jobs, problem_time}
+use Rattle.tf_posed.specs.FitsProblem.{FitsProblem}
+use Rattle.tf_posed.specs.ProblemCost.{problem_cost, IsLowerBound, IsProblemBest}
 use Rattle.tf_problem.specs.ProblemBounds.{window_value, one_job_value}
 use Rattle.tf_problem.specs.Parts.{part_within, part_of}
 use Rattle.tf_problem.proofs.FitsTest.{fits-passed}
-use Rattle.tf_problem.proofs.Relaxing.{All-problem_jobs}
+use Rattle.tf_posed.proofs.Conditions.{All-problem_jobs}
 use Rattle.tf_problem.proofs.Parts.{parts-bound}
 
 -- a number from 1 to 3

@@ -9,12 +9,12 @@ use Rattle.std.proofs.lemmas.List.Elements.{All-cons, All-nil, All-head, All-tai
 use Rattle.std.proofs.lemmas.List.FromFn.{length-range_with_len}
 use Rattle.tf_model.specs.Timetable.{completion}
 use Rattle.tf_model.specs.ClassTable.{is_single_env, is_shop_env, is_flow_env}
-use Rattle.tf_problem.specs.ProblemData.{ProblemData, IsProblemSound, IsProblemJob, problem_jobs, problem_time, time_over, problem_release, problem_due}
-use Rattle.tf_problem.specs.ProblemCost.{problem_cost, IsLowerBound}
+use Rattle.tf_posed.specs.ProblemData.{ProblemData, IsProblemSound, IsProblemJob, problem_jobs, problem_time, time_over, problem_release, problem_due}
+use Rattle.tf_posed.specs.ProblemCost.{problem_cost, IsLowerBound}
 use Rattle.tf_problem.specs.ProblemBounds.{int_sum, is_by_machine, is_max_goal, problem_work}
 use Rattle.tf_problem.specs.Potentials.{potential_of_end, potential_after, potential_before, start_delay, ArePotentials, potentials_value, HaveTimeOnAll}
 use Rattle.tf_problem.proofs.RouteLists.{range-apart, AllPairs-first, AllPairs-rest}
-use Rattle.tf_problem.proofs.Relaxing.{All-problem_jobs}
+use Rattle.tf_posed.proofs.Conditions.{All-problem_jobs}
 use Rattle.tf_problem.proofs.Routes.{flow_shop, total-le-completion}
 use Rattle.tf_problem.proofs.Least.{late-le-cost}
 use Rattle.tf_problem.proofs.NoWait.{start, delayed}

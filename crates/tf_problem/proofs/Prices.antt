@@ -12,11 +12,11 @@ use Rattle.tf_model.proofs.Sums.{sum_by_le_all, sum_by-plus, sum_by-times, sum_b
 use Rattle.tf_model.proofs.Units.{cell-le-cells_of, cell_at_completion, completion-le-length}
 use Rattle.tf_model.proofs.Work.{IsDistinct, cells-le-length}
 use Rattle.tf_model.proofs.Loads.{once}
-use Rattle.tf_problem.specs.ProblemData.{ProblemData, IsProblemSound, IsProblemJob, problem_jobs, problem_time, time_over, problem_release}
-use Rattle.tf_problem.specs.FitsProblem.{FitsProblem}
-use Rattle.tf_problem.specs.ProblemCost.{problem_cost, problem_cost_by, penalty, IsLowerBound}
+use Rattle.tf_posed.specs.ProblemData.{ProblemData, IsProblemSound, IsProblemJob, problem_jobs, problem_time, time_over, problem_release}
+use Rattle.tf_posed.specs.FitsProblem.{FitsProblem}
+use Rattle.tf_posed.specs.ProblemCost.{problem_cost, problem_cost_by, penalty, IsLowerBound}
 use Rattle.tf_problem.specs.ProblemBounds.{is_alike, is_sum_goal, numerator, price_of_rows, start_price, AreCheapest, last_within, horizon, prices_value, problem_work}
-use Rattle.tf_problem.proofs.Relaxing.{All-problem_jobs}
+use Rattle.tf_posed.proofs.Conditions.{All-problem_jobs}
 use Rattle.tf_problem.proofs.Windows.{alike_no_shop, cells-between, units-le-rows, one_time-le-completion}
 use Rattle.tf_problem.proofs.Multipliers.{share-le}
 use Rattle.tf_problem.proofs.Least.{Contains-problem_jobs}

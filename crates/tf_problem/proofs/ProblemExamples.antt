@@ -14,14 +14,15 @@ use Rattle.tf_model.specs.Whole.{IsWithin}
 use Rattle.tf_model.specs.Sound.{IsSound}
 use Rattle.tf_check.specs.Claim.{BySplit}
 use Rattle.tf_check.specs.Bound.{bound_by}
-use Rattle.tf_problem.specs.ProblemData.{ProblemData, ProblemJobData, IsProblemSound, IsRoute, IsProblemJob, needs_time, problem_job, problem_jobs, problem_time, problem_weight, problem_release, problem_due, time_over}
-use Rattle.tf_problem.specs.FitsProblem.{FitsProblem, GoesFirst, IsInOneOrder}
-use Rattle.tf_problem.specs.ProblemCost.{problem_cost, tardiness, unit_penalty, IsLowerBound, IsProblemBest}
+use Rattle.tf_posed.specs.ProblemData.{ProblemData, ProblemJobData, IsProblemSound, IsRoute, IsProblemJob, needs_time, problem_job, problem_jobs, problem_time, problem_weight, problem_release, problem_due, time_over}
+use Rattle.tf_posed.specs.FitsProblem.{FitsProblem, GoesFirst, IsInOneOrder}
+use Rattle.tf_posed.specs.ProblemCost.{problem_cost, tardiness, unit_penalty, IsLowerBound, IsProblemBest}
 use Rattle.tf_problem.specs.Relaxed.{pair_task}
 use Rattle.tf_problem.specs.ProblemBounds.{pair_margin, machine_value, window_value, any_multiplier_value, numerator, one_job_value, problem_work, AreCheapest, start_price}
 use Rattle.tf_problem.proofs.Least.{Contains-problem_jobs}
 use Rattle.tf_problem.proofs.FitsTest.{fits-passed}
-use Rattle.tf_problem.proofs.Relaxing.{All-problem_jobs, bound-of_relaxation}
+use Rattle.tf_posed.proofs.Conditions.{All-problem_jobs}
+use Rattle.tf_problem.proofs.Relaxing.{bound-of_relaxation}
 use Rattle.tf_problem.proofs.Windows.{window-bound, one_job-bound}
 use Rattle.tf_problem.proofs.Crowds.{crowd-bound}
 use Rattle.tf_model.proofs.Loads.{once}

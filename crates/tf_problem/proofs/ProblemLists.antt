@@ -10,7 +10,7 @@ use Rattle.tf_model.specs.Timetable.{Row, Timetable, cell, cells_of, units, all_
 use Rattle.tf_model.proofs.Sums.{sum_by_le_all, sum_by-times, sum_by-swap}
 use Rattle.tf_model.proofs.Units.{cell_with}
 use Rattle.tf_model.proofs.Work.{greatest_at}
-use Rattle.tf_problem.specs.ProblemData.{ProblemData, IsProblemJob, problem_jobs}
+use Rattle.tf_posed.specs.ProblemData.{ProblemData, IsProblemJob, problem_jobs}
 
 abbrev as_one : Bool → ℕ
 as_one t = cond t 1 0

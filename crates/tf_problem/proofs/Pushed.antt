@@ -14,9 +14,9 @@ use Rattle.tf_model.specs.Timetable.{Timetable, cell, completion}
 use Rattle.tf_model.specs.ClassTable.{is_single_env, is_shop_env}
 use Rattle.tf_model.specs.Feasible.{IsKept}
 use Rattle.tf_model.proofs.Units.{cell_at_completion, completion-le-row, completion-le-length}
-use Rattle.tf_problem.specs.ProblemData.{ProblemData, IsProblemSound, IsProblemJob, needs_time, problem_job, problem_time, time_over, problem_due, route_by, no_problem_job, is_covered_env, is_covered_goal, IsRoute}
-use Rattle.tf_problem.specs.FitsProblem.{FitsProblem, VisitsFirst}
-use Rattle.tf_problem.specs.ProblemCost.{problem_cost}
+use Rattle.tf_posed.specs.ProblemData.{ProblemData, IsProblemSound, IsProblemJob, needs_time, problem_job, problem_time, time_over, problem_due, route_by, no_problem_job, is_covered_env, is_covered_goal, IsRoute}
+use Rattle.tf_posed.specs.FitsProblem.{FitsProblem, VisitsFirst}
+use Rattle.tf_posed.specs.ProblemCost.{problem_cost}
 use Rattle.tf_problem.specs.ProblemBounds.{problem_work, is_alike, is_max_goal}
 use Rattle.tf_problem.specs.Pushed.{release_in, due_in, pushed_job, pushed, dated_goal, AreReleases, AreDues}
 use Rattle.tf_problem.proofs.Relaxing.{problem_release-le-row}

@@ -9,11 +9,12 @@ use Rattle.tf_model.specs.Whole.{as_time}
 use Rattle.tf_model.specs.Timetable.{Timetable, completion}
 use Rattle.tf_model.specs.Cost.{greatest}
 use Rattle.tf_model.proofs.Sums.{sum_by_le_all}
-use Rattle.tf_problem.specs.ProblemData.{ProblemData, IsProblemSound, IsProblemJob, problem_job, problem_jobs, is_covered_env, is_covered_goal}
-use Rattle.tf_problem.specs.ProblemCost.{problem_cost, problem_cost_by, lateness, penalty, IsLowerBound}
+use Rattle.tf_posed.specs.ProblemData.{ProblemData, IsProblemSound, IsProblemJob, problem_job, problem_jobs, is_covered_env, is_covered_goal}
+use Rattle.tf_posed.specs.ProblemCost.{problem_cost, problem_cost_by, lateness, penalty, IsLowerBound}
 use Rattle.tf_problem.specs.ProblemBounds.{is_max_goal, is_sum_goal}
 use Rattle.tf_problem.specs.Pushed.{due_in, pushed, dated_goal, serving_by, AreReleases, AreDues, AreOwnDues, AreServingDues}
-use Rattle.tf_problem.proofs.Relaxing.{All-problem_jobs, greatest_reached}
+use Rattle.tf_posed.proofs.Conditions.{All-problem_jobs}
+use Rattle.tf_problem.proofs.Relaxing.{greatest_reached}
 use Rattle.tf_problem.proofs.Prices.{sum-cost}
 use Rattle.tf_problem.proofs.Pushed.{size, its_job, due-le-cost, pushed-fits}
 

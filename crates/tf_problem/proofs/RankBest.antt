@@ -19,11 +19,11 @@ use Rattle.tf_model.proofs.Sums.{sum_by_le_all, sum_by-swap, sum_by-same, sum_by
 use Rattle.tf_model.proofs.Units.{completion_cases, cell-le-cells_of}
 use Rattle.tf_model.proofs.Loads.{once}
 use Rattle.tf_model.proofs.RankSums.{ranked}
-use Rattle.tf_problem.specs.ProblemData.{ProblemData, IsProblemSound, IsProblemJob, problem_jobs, problem_time, route_by}
-use Rattle.tf_problem.specs.FitsProblem.{FitsProblem, VisitsFirst}
-use Rattle.tf_problem.specs.ProblemCost.{problem_cost, problem_cost_by, IsLowerBound, IsProblemBest}
+use Rattle.tf_posed.specs.ProblemData.{ProblemData, IsProblemSound, IsProblemJob, problem_jobs, problem_time, route_by}
+use Rattle.tf_posed.specs.FitsProblem.{FitsProblem, VisitsFirst}
+use Rattle.tf_posed.specs.ProblemCost.{problem_cost, problem_cost_by, IsLowerBound, IsProblemBest}
 use Rattle.tf_problem.specs.ProblemBounds.{is_alike}
-use Rattle.tf_problem.proofs.Relaxing.{All-problem_jobs}
+use Rattle.tf_posed.proofs.Conditions.{All-problem_jobs}
 use Rattle.tf_problem.proofs.ProblemLists.{units-one}
 use Rattle.tf_problem.proofs.Windows.{alike_no_shop}
 use Rattle.tf_problem.specs.Ranks.{rank_value, IsFalling}

@@ -18,8 +18,8 @@ use Rattle.tf_model.proofs.Units.{completion_cases, completion-le-length}
 use Rattle.tf_model.proofs.Work.{cells-le-length}
 use Rattle.tf_model.proofs.Loads.{div_ceil_least}
 use Rattle.tf_model.proofs.RankSums.{ranked, Falling}
-use Rattle.tf_problem.specs.ProblemData.{ProblemData, IsProblemSound, IsProblemJob, problem_jobs, problem_time}
-use Rattle.tf_problem.specs.ProblemCost.{problem_cost, problem_cost_by, IsLowerBound}
+use Rattle.tf_posed.specs.ProblemData.{ProblemData, IsProblemSound, IsProblemJob, problem_jobs, problem_time}
+use Rattle.tf_posed.specs.ProblemCost.{problem_cost, problem_cost_by, IsLowerBound}
 use Rattle.tf_problem.specs.ProblemBounds.{is_alike}
 use Rattle.tf_problem.proofs.Windows.{alike_no_shop}
 use Rattle.tf_problem.specs.Ranks.{rank_value, IsFalling}

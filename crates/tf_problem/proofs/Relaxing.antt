@@ -4,7 +4,7 @@ use Rattle.std.specs.Int.{int_max}
 use Rattle.std.specs.List.{fold, range_with_len}
 use Rattle.std.proofs.lemmas.Int.{ints, fold-int_max_bounds, fold-int_max_reached}
 use Rattle.std.proofs.lemmas.Bool.{false≢true}
-use Rattle.std.proofs.lemmas.List.FromFn.{length-range_with_len, get_or-range_with_len, get_or-map-range_with_len, length-map-range_with_len}
+use Rattle.std.proofs.lemmas.List.FromFn.{get_or-map-range_with_len, length-map-range_with_len}
 use Rattle.std.proofs.lemmas.List.Elements.{All-nil}
 use Rattle.tf_model.specs.declared.class.Class.{Class}
 use Rattle.tf_model.specs.Timetable.{Timetable, cell, completion}
@@ -18,9 +18,9 @@ use Rattle.tf_model.proofs.Costs.{greatest_price_reached}
 use Rattle.tf_check.specs.Claim.{Claim}
 use Rattle.tf_check.specs.Bound.{bound_by}
 use Rattle.tf_check.specs.Laws.{bound_law}
-use Rattle.tf_problem.specs.ProblemData.{ProblemData, problem_jobs, IsProblemJob, problem_job, problem_time, problem_release}
-use Rattle.tf_problem.specs.FitsProblem.{FitsProblem}
-use Rattle.tf_problem.specs.ProblemCost.{problem_cost, IsLowerBound}
+use Rattle.tf_posed.specs.ProblemData.{ProblemData, problem_jobs, IsProblemJob, problem_job, problem_time, problem_release}
+use Rattle.tf_posed.specs.FitsProblem.{FitsProblem}
+use Rattle.tf_posed.specs.ProblemCost.{problem_cost, IsLowerBound}
 use Rattle.tf_problem.specs.Relaxed.{IsRelaxation, task_by}
 
 -- ---- the two laws of relaxation
@@ -46,14 +46,6 @@ best-of_relaxation k relaxed more relaxes best v is rows fits =
     with_more v (cost relaxed at.0) more (problem_cost k rows) (is.least at.0 at.1) at.2
 
 -- ---- jobs
-
--- what holds of each job holds all along the jobs
-pub All-problem_jobs : (k : ProblemData) (P : ℕ → Type 0) → ((j : ℕ) → IsProblemJob k j → P j)
-    → All P (problem_jobs k)
-All-problem_jobs k P all i d h =
-    let in' : i < length k.jobs = omega (arith, length-range_with_len 1 (length k.jobs)) in
-    subst P (sym (get_or-range_with_len 1 (length k.jobs) i d in'))
-    (all (1 + i) (omega arith, omega arith))
 
 greatest-fold : (f : ℕ → ℤ) (n : ℕ) → 1 ≤ n
     → greatest f (range_with_len 1 n) ≡ fold int_max (f 1) (map f (range_with_len 1 n))

@@ -4,8 +4,8 @@ use Rattle.std.proofs.lemmas.Int.{ints}
 use Rattle.tf_model.specs.declared.problem.Goal.{Goal}
 use Rattle.tf_model.specs.declared.problem.Goal.TheVariants as goals
 use Rattle.tf_model.specs.Whole.{as_time}
-use Rattle.tf_problem.specs.ProblemData.{ProblemData, problem_job}
-use Rattle.tf_problem.specs.ProblemCost.{penalty}
+use Rattle.tf_posed.specs.ProblemData.{ProblemData, problem_job}
+use Rattle.tf_posed.specs.ProblemCost.{penalty}
 use Rattle.tf_problem.proofs.Multipliers.{as_time-at-most}
 
 pub late-rises : (c e : ℕ) (d : ℤ) → c ≤ e → as_time (pos c -ℤ d) ≤ as_time (pos e -ℤ d)

@@ -11,8 +11,8 @@ use Rattle.tf_model.proofs.Units.{completion-le-row}
 use Rattle.tf_model.proofs.Split.{take_cell}
 use Rattle.tf_model.specs.declared.problem.Env.{Env}
 use Rattle.tf_model.specs.declared.problem.Env.TheVariants.{Flow, JobShop}
-use Rattle.tf_problem.specs.ProblemData.{ProblemData, IsProblemSound, IsProblemJob, IsRoute, is_job_shop, needs_time, problem_job, route_by, route_of, problem_time_on, time_over, problem_release}
-use Rattle.tf_problem.specs.FitsProblem.{FitsProblem, VisitsFirst}
+use Rattle.tf_posed.specs.ProblemData.{ProblemData, IsProblemSound, IsProblemJob, IsRoute, is_job_shop, needs_time, problem_job, route_by, route_of, problem_time_on, time_over, problem_release}
+use Rattle.tf_posed.specs.FitsProblem.{FitsProblem, VisitsFirst}
 use Rattle.tf_problem.specs.ProblemBounds.{before, behind, head, tail, is_by_machine}
 use Rattle.tf_problem.proofs.ProblemLists.{units_before, units_from, units-one, unit_at}
 use Rattle.tf_problem.proofs.RouteLists.{units_on_route, before-says, behind-says, All-before, All-behind, AllPairs-before, AllPairs-behind, sum_by-before-behind, range-apart, range-below, Contains-range}

@@ -13,11 +13,12 @@ use Rattle.tf_model.specs.declared.problem.Goal.TheVariants as goals
 use Rattle.tf_model.specs.Timetable.{Timetable, cells_of, all_units, completion}
 use Rattle.tf_model.proofs.Sums.{sum_by_le_all, sum_by-plus, sum_by-times}
 use Rattle.tf_model.proofs.Units.{cell_with}
-use Rattle.tf_problem.specs.ProblemData.{ProblemData, IsProblemSound, IsProblemJob, problem_jobs, problem_time, problem_release, problem_weight, weight_by}
-use Rattle.tf_problem.specs.FitsProblem.{FitsProblem}
-use Rattle.tf_problem.specs.ProblemCost.{problem_cost, penalty, IsLowerBound}
+use Rattle.tf_posed.specs.ProblemData.{ProblemData, IsProblemSound, IsProblemJob, problem_jobs, problem_time, problem_release, problem_weight, weight_by}
+use Rattle.tf_posed.specs.FitsProblem.{FitsProblem}
+use Rattle.tf_posed.specs.ProblemCost.{problem_cost, penalty, IsLowerBound}
 use Rattle.tf_problem.specs.ProblemBounds.{is_alike, is_completion_goal, is_sum_goal, row_price, cheapest_row, rows_cost, rows_value}
-use Rattle.tf_problem.proofs.Relaxing.{All-problem_jobs, problem_release-le-row}
+use Rattle.tf_posed.proofs.Conditions.{All-problem_jobs}
+use Rattle.tf_problem.proofs.Relaxing.{problem_release-le-row}
 use Rattle.tf_problem.proofs.Windows.{alike_no_shop}
 use Rattle.tf_problem.proofs.Least.{least_number-le}
 use Rattle.tf_problem.proofs.Multipliers.{share-le}

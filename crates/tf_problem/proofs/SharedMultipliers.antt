@@ -12,12 +12,13 @@ use Rattle.tf_model.proofs.PairSums.{pair_sum_le}
 use Rattle.tf_model.proofs.Units.{cell_at_completion, completion-le-row}
 use Rattle.tf_model.proofs.Work.{cells-le-length}
 use Rattle.tf_check.specs.Bound.{least_number}
-use Rattle.tf_problem.specs.ProblemData.{ProblemData, IsProblemSound, IsProblemJob, problem_jobs, problem_time, problem_time_on, problem_weight, problem_release, problem_due}
-use Rattle.tf_problem.specs.FitsProblem.{FitsProblem}
-use Rattle.tf_problem.specs.ProblemCost.{problem_cost, IsLowerBound}
+use Rattle.tf_posed.specs.ProblemData.{ProblemData, IsProblemSound, IsProblemJob, problem_jobs, problem_time, problem_time_on, problem_weight, problem_release, problem_due}
+use Rattle.tf_posed.specs.FitsProblem.{FitsProblem}
+use Rattle.tf_posed.specs.ProblemCost.{problem_cost, IsLowerBound}
 use Rattle.tf_problem.specs.Relaxed.{weighed_task, only_time}
 use Rattle.tf_problem.proofs.ProblemLists.{cells_from, drop_cell}
-use Rattle.tf_problem.proofs.Relaxing.{All-problem_jobs, problem_release-le-row, jobs-task_by, job-task_by}
+use Rattle.tf_posed.proofs.Conditions.{All-problem_jobs}
+use Rattle.tf_problem.proofs.Relaxing.{problem_release-le-row, jobs-task_by, job-task_by}
 use Rattle.tf_problem.proofs.Least.{least_number-le-job}
 use Rattle.tf_problem.proofs.Windows.{alike_no_shop, one_time-le-completion}
 use Rattle.tf_problem.proofs.Prices.{IsDistinct-problem_jobs}

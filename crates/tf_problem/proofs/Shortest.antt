@@ -10,9 +10,9 @@ use Rattle.tf_model.specs.ClassTable.{is_single_env, is_parallel_env}
 use Rattle.tf_model.specs.Distinct.{IsDistinct}
 use Rattle.tf_model.specs.Timetable.{Timetable, completion}
 use Rattle.tf_model.proofs.Sums.{sum_by_le_all, sum_by-same}
-use Rattle.tf_problem.specs.ProblemData.{ProblemData, IsProblemSound, IsProblemJob, problem_jobs, problem_time, problem_release}
-use Rattle.tf_problem.specs.FitsProblem.{FitsProblem}
-use Rattle.tf_problem.specs.ProblemCost.{problem_cost, problem_cost_by, IsLowerBound}
+use Rattle.tf_posed.specs.ProblemData.{ProblemData, IsProblemSound, IsProblemJob, problem_jobs, problem_time, problem_release}
+use Rattle.tf_posed.specs.FitsProblem.{FitsProblem}
+use Rattle.tf_posed.specs.ProblemCost.{problem_cost, problem_cost_by, IsLowerBound}
 use Rattle.tf_problem.specs.ProblemBounds.{is_alike}
 use Rattle.tf_problem.proofs.Windows.{alike_no_shop}
 use Rattle.tf_problem.specs.Kept.{put, IsRisingBy}

@@ -9,10 +9,10 @@ use Rattle.tf_model.specs.declared.problem.Goal.TheVariants as goals
 use Rattle.tf_model.specs.ClassTable.{is_single_env, is_parallel_env, is_shop_env}
 use Rattle.tf_model.specs.Distinct.{IsDistinct}
 use Rattle.tf_model.proofs.Loads.{once}
-use Rattle.tf_problem.specs.ProblemData.{ProblemData, IsProblemSound, IsProblemJob, problem_jobs, problem_job, problem_time, problem_release}
-use Rattle.tf_problem.specs.FitsProblem.{FitsProblem, VisitsFirst}
-use Rattle.tf_problem.specs.ProblemCost.{problem_cost, problem_cost_by, IsLowerBound, IsProblemBest}
-use Rattle.tf_problem.proofs.Relaxing.{All-problem_jobs}
+use Rattle.tf_posed.specs.ProblemData.{ProblemData, IsProblemSound, IsProblemJob, problem_jobs, problem_job, problem_time, problem_release}
+use Rattle.tf_posed.specs.FitsProblem.{FitsProblem, VisitsFirst}
+use Rattle.tf_posed.specs.ProblemCost.{problem_cost, problem_cost_by, IsLowerBound, IsProblemBest}
+use Rattle.tf_posed.proofs.Conditions.{All-problem_jobs}
 use Rattle.tf_problem.proofs.Windows.{alike_no_shop}
 use Rattle.tf_problem.proofs.KeptBest.{once-own, route_none}
 use Rattle.tf_problem.proofs.Shortest.{shortest-bound}

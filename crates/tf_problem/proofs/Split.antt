@@ -14,14 +14,14 @@ use Rattle.tf_model.proofs.Sums.{sum_by_le_all}
 use Rattle.tf_model.proofs.Work.{IsDistinct, work-le-rows}
 use Rattle.tf_model.proofs.Split.{take_cell}
 use Rattle.tf_check.specs.Bound.{least_number, least}
-use Rattle.tf_problem.specs.ProblemData.{ProblemData, IsProblemSound, IsProblemJob, problem_jobs, problem_time_on, problem_due}
-use Rattle.tf_problem.specs.FitsProblem.{FitsProblem, GoesFirst}
-use Rattle.tf_problem.specs.ProblemCost.{problem_cost, IsLowerBound}
+use Rattle.tf_posed.specs.ProblemData.{ProblemData, IsProblemSound, IsProblemJob, problem_jobs, problem_time_on, problem_due}
+use Rattle.tf_posed.specs.FitsProblem.{FitsProblem, GoesFirst}
+use Rattle.tf_posed.specs.ProblemCost.{problem_cost, IsLowerBound}
 use Rattle.tf_problem.specs.ProblemBounds.{head, tail, is_by_machine, is_max_goal}
 use Rattle.tf_problem.specs.Split.{lag, reaches, reaches_delta, counts_less, keeps_side, counted, split_value, IsSplit}
 use Rattle.tf_problem.proofs.ProblemLists.{units_before, units_from, unit_at, last_by}
 use Rattle.tf_problem.proofs.RouteLists.{AllPairs-first, AllPairs-rest, range-apart}
-use Rattle.tf_problem.proofs.Relaxing.{All-problem_jobs}
+use Rattle.tf_posed.proofs.Conditions.{All-problem_jobs}
 use Rattle.tf_problem.proofs.Least.{Contains-problem_jobs, least_number-le-job, least-le, late-le-cost}
 use Rattle.tf_problem.proofs.Prices.{IsDistinct-problem_jobs}
 use Rattle.tf_problem.proofs.Routes.{flow_shop, units-on, over-le-rows}

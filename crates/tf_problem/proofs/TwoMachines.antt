@@ -16,13 +16,14 @@ use Rattle.tf_model.proofs.Loads.{latest}
 use Rattle.tf_model.proofs.Costs.{greatest_price_reached}
 use Rattle.tf_model.proofs.Split.{take_cell}
 use Rattle.tf_check.specs.Bound.{least_number}
-use Rattle.tf_problem.specs.ProblemData.{ProblemData, IsProblemSound, IsProblemJob, problem_jobs, problem_time_on}
-use Rattle.tf_problem.specs.FitsProblem.{FitsProblem}
-use Rattle.tf_problem.specs.ProblemCost.{problem_cost, problem_cost_by}
+use Rattle.tf_posed.specs.ProblemData.{ProblemData, IsProblemSound, IsProblemJob, problem_jobs, problem_time_on}
+use Rattle.tf_posed.specs.FitsProblem.{FitsProblem}
+use Rattle.tf_posed.specs.ProblemCost.{problem_cost, problem_cost_by}
 use Rattle.tf_problem.specs.Relaxed.{IsRelaxation, pair_task, only_time}
 use Rattle.tf_problem.specs.ProblemBounds.{is_by_machine, head, tail, pair_margin}
 use Rattle.tf_problem.proofs.ProblemLists.{units_before, units_from, drop_cell}
-use Rattle.tf_problem.proofs.Relaxing.{All-problem_jobs, at-le-greatest, length-task_by, job-task_by, problem-job}
+use Rattle.tf_posed.proofs.Conditions.{All-problem_jobs}
+use Rattle.tf_problem.proofs.Relaxing.{at-le-greatest, length-task_by, job-task_by, problem-job}
 use Rattle.tf_problem.proofs.Least.{Contains-problem_jobs, least_number-le-job}
 use Rattle.tf_problem.proofs.Routes.{flow_shop, units-on}
 use Rattle.tf_problem.proofs.FlowRoutes.{on-flow, head-before-row, tail-behind-row, heads-and-tails}

@@ -16,9 +16,9 @@ use Rattle.tf_model.proofs.Work.{IsDistinct, cells-le-length, work-le-rows}
 use Rattle.tf_model.proofs.Loads.{div_ceil_least}
 use Rattle.tf_model.proofs.Split.{take_cell}
 use Rattle.tf_check.specs.Bound.{least_number}
-use Rattle.tf_problem.specs.ProblemData.{ProblemData, IsProblemSound, IsProblemJob, problem_time, time_over, problem_release, problem_due}
-use Rattle.tf_problem.specs.FitsProblem.{FitsProblem}
-use Rattle.tf_problem.specs.ProblemCost.{problem_cost, IsLowerBound}
+use Rattle.tf_posed.specs.ProblemData.{ProblemData, IsProblemSound, IsProblemJob, problem_time, time_over, problem_release, problem_due}
+use Rattle.tf_posed.specs.FitsProblem.{FitsProblem}
+use Rattle.tf_posed.specs.ProblemCost.{problem_cost, IsLowerBound}
 use Rattle.tf_problem.specs.ProblemBounds.{window_value, problem_work, one_job_value, is_alike, is_max_goal}
 use Rattle.tf_problem.proofs.ProblemLists.{cells_from, last_by}
 use Rattle.tf_problem.proofs.Relaxing.{problem_release-le-row}

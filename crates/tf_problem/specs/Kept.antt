@@ -12,8 +12,8 @@ use Rattle.tf_model.specs.Distinct.{IsDistinct}
 use Rattle.tf_model.specs.Timetable.{Timetable}
 use Rattle.tf_model.specs.Whole.{as_time}
 use Rattle.tf_check.specs.Bound.{least_number}
-use Rattle.tf_problem.specs.ProblemData.{ProblemData, IsProblemSound, IsProblemJob, problem_jobs, problem_job, problem_time, problem_release, problem_weight}
-use Rattle.tf_problem.specs.ProblemCost.{IsLowerBound, IsProblemBest}
+use Rattle.tf_posed.specs.ProblemData.{ProblemData, IsProblemSound, IsProblemJob, problem_jobs, problem_job, problem_time, problem_release, problem_weight}
+use Rattle.tf_posed.specs.ProblemCost.{IsLowerBound, IsProblemBest}
 use Rattle.tf_problem.specs.ProblemBounds.{is_alike}
 
 -- a number put into a list that rises

@@ -1,10 +1,7 @@
 -- what a caller has to believe
-pub mod ProblemData
-pub mod FitsProblem
-pub mod ProblemCost
 pub mod Relaxed
 pub mod ProblemBounds
-pub mod Agreement
+pub mod FlowAgreement
 pub mod Pushed
 pub mod Kept
 pub mod Shortest

@@ -3,8 +3,8 @@ use Rattle.std.specs.Prelude.{ℕ, ◌+◌, ◌-◌, ◌*◌, ◌≤◌, ◌<◌
 use Rattle.std.specs.List.{range_with_len, sum_by}
 use Rattle.tf_model.specs.ClassTable.{is_shop_env}
 use Rattle.tf_check.specs.Bound.{least_number}
-use Rattle.tf_problem.specs.ProblemData.{ProblemData, IsProblemSound, problem_jobs, problem_time_on, problem_release}
-use Rattle.tf_problem.specs.ProblemCost.{penalty, IsLowerBound}
+use Rattle.tf_posed.specs.ProblemData.{ProblemData, IsProblemSound, problem_jobs, problem_time_on, problem_release}
+use Rattle.tf_posed.specs.ProblemCost.{penalty, IsLowerBound}
 use Rattle.tf_problem.specs.ProblemBounds.{is_sum_goal, head, tail, problem_work, price_of_rows, share_up}
 
 -- When a job completes at the earliest, if it starts on machine a in row s: after its time there and

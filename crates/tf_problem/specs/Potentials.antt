@@ -4,8 +4,8 @@
 use Rattle.std.specs.Prelude.{◌≢◌, ℕ, ◌+◌, ◌-◌, ◌*◌, ◌≤◌, ◌<◌, max, ℤ, pos, ◌+ℤ◌, ◌-ℤ◌, ◌≤ℤ◌, List, map, slice_index_or, IsTrue}
 use Rattle.std.specs.List.{fold, range_with_len}
 use Rattle.tf_model.specs.ClassTable.{is_flow_env}
-use Rattle.tf_problem.specs.ProblemData.{ProblemData, IsProblemSound, IsProblemJob, problem_jobs, problem_time_on, time_over, problem_release, problem_due}
-use Rattle.tf_problem.specs.ProblemCost.{IsLowerBound}
+use Rattle.tf_posed.specs.ProblemData.{ProblemData, IsProblemSound, IsProblemJob, problem_jobs, problem_time_on, time_over, problem_release, problem_due}
+use Rattle.tf_posed.specs.ProblemCost.{IsLowerBound}
 use Rattle.tf_problem.specs.ProblemBounds.{int_sum, is_max_goal, problem_work}
 
 -- The first number is for the end of the last job. Then each job has two, in the order of the jobs:

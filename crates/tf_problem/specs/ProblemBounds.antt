@@ -9,9 +9,9 @@ use Rattle.tf_model.specs.ClassTable.{is_single_env, is_parallel_env, is_shop_en
 use Rattle.tf_model.specs.Cost.{greatest}
 use Rattle.tf_model.specs.Bounds.{pairs_value}
 use Rattle.tf_check.specs.Bound.{least_number, least}
-use Rattle.tf_problem.specs.ProblemData.{ProblemData, IsProblemJob, problem_jobs, problem_time, problem_time_on, time_over, problem_release, problem_due, problem_weight, route_of}
+use Rattle.tf_posed.specs.ProblemData.{ProblemData, IsProblemJob, problem_jobs, problem_time, problem_time_on, time_over, problem_release, problem_due, problem_weight, route_of}
 use Rattle.tf_problem.specs.Relaxed.{weighed_task}
-use Rattle.tf_problem.specs.ProblemCost.{penalty}
+use Rattle.tf_posed.specs.ProblemCost.{penalty}
 
 -- ---- kinds of problems
 

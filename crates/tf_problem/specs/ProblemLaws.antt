@@ -11,8 +11,8 @@ use Rattle.tf_model.specs.Sound.{IsSound}
 use Rattle.tf_model.specs.Cost.{IsBest}
 use Rattle.tf_check.specs.Claim.{Claim}
 use Rattle.tf_check.specs.Bound.{bound_by}
-use Rattle.tf_problem.specs.ProblemData.{ProblemData, IsProblemSound, IsProblemJob, problem_job, problem_release, problem_time}
-use Rattle.tf_problem.specs.ProblemCost.{IsLowerBound}
+use Rattle.tf_posed.specs.ProblemData.{ProblemData, IsProblemSound, IsProblemJob, problem_job, problem_release, problem_time}
+use Rattle.tf_posed.specs.ProblemCost.{IsLowerBound}
 use Rattle.tf_problem.specs.Relaxed.{IsRelaxation, window_task, load_task, rank_task, weighed_task, pair_task}
 use Rattle.tf_problem.specs.Pushed.{pushed, AreReleases, AreServingDues}
 use Rattle.tf_problem.specs.ProblemBounds.{pair_margin, window_value, crowd_value, one_job_value, machine_value, AreMultipliers, any_multiplier_value, numerator, is_alike, is_by_machine, is_max_goal, is_tardy_goal, is_completion_goal, is_sum_goal, horizon, AreCheapest, last_within, prices_value, start_price, rows_value, alone_cost}

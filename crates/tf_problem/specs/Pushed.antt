@@ -3,7 +3,7 @@ use Rattle.std.specs.Prelude.{◌≡◌, ℕ, ◌⊎◌, ◌+◌, ◌-◌, ◌�
 use Rattle.std.specs.List.{Contains}
 use Rattle.tf_model.specs.declared.problem.Goal.{Goal}
 use Rattle.tf_model.specs.declared.problem.Goal.TheVariants as goals
-use Rattle.tf_problem.specs.ProblemData.{ProblemData, ProblemJobData, IsProblemJob, problem_jobs, problem_job, problem_release, problem_due}
+use Rattle.tf_posed.specs.ProblemData.{ProblemData, ProblemJobData, IsProblemJob, problem_jobs, problem_job, problem_release, problem_due}
 use Rattle.tf_problem.specs.ProblemBounds.{is_max_goal, problem_work}
 
 abbrev pub release_in : List ℕ → ℕ → ℕ

@@ -6,9 +6,9 @@ use Rattle.tf_model.specs.SchedulingTask.{SchedulingTask, JobData}
 use Rattle.tf_model.specs.Timetable.{Timetable}
 use Rattle.tf_model.specs.Feasible.{Fits}
 use Rattle.tf_model.specs.Cost.{cost}
-use Rattle.tf_problem.specs.ProblemData.{ProblemData, problem_jobs, problem_job, problem_time, problem_time_on, problem_release}
-use Rattle.tf_problem.specs.FitsProblem.{FitsProblem}
-use Rattle.tf_problem.specs.ProblemCost.{problem_cost}
+use Rattle.tf_posed.specs.ProblemData.{ProblemData, problem_jobs, problem_job, problem_time, problem_time_on, problem_release}
+use Rattle.tf_posed.specs.FitsProblem.{FitsProblem}
+use Rattle.tf_posed.specs.ProblemCost.{problem_cost}
 
 -- Each timetable that fits the task gives one that fits the task of the class and costs less,
 -- by `more` at least.

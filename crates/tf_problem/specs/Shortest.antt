@@ -9,8 +9,8 @@ use Rattle.std.specs.List.Sorted.{IsPermutation}
 use Rattle.tf_model.specs.Timetable.{Timetable}
 use Rattle.tf_model.specs.ClassTable.{is_single_env}
 use Rattle.tf_model.specs.Distinct.{IsDistinct}
-use Rattle.tf_problem.specs.ProblemData.{ProblemData, IsProblemSound, IsProblemJob, problem_jobs, problem_time, problem_release}
-use Rattle.tf_problem.specs.ProblemCost.{IsLowerBound, IsProblemBest}
+use Rattle.tf_posed.specs.ProblemData.{ProblemData, IsProblemSound, IsProblemJob, problem_jobs, problem_time, problem_release}
+use Rattle.tf_posed.specs.ProblemCost.{IsLowerBound, IsProblemBest}
 use Rattle.tf_problem.specs.Kept.{put, IsRisingBy}
 
 -- what remains of times that rise when the first are worked on for d

@@ -6,8 +6,8 @@ use Rattle.std.specs.Prelude.{ℕ, ◌+◌, ◌-◌, ◌<◌, nat_lt, nat_le, Bo
 use Rattle.std.specs.List.{sum_by}
 use Rattle.tf_model.specs.ClassTable.{is_flow_env}
 use Rattle.tf_check.specs.Bound.{least_number, least}
-use Rattle.tf_problem.specs.ProblemData.{ProblemData, IsProblemSound, IsProblemJob, problem_jobs, problem_time_on, time_over, problem_due}
-use Rattle.tf_problem.specs.ProblemCost.{IsLowerBound}
+use Rattle.tf_posed.specs.ProblemData.{ProblemData, IsProblemSound, IsProblemJob, problem_jobs, problem_time_on, time_over, problem_due}
+use Rattle.tf_posed.specs.ProblemCost.{IsLowerBound}
 use Rattle.tf_problem.specs.ProblemBounds.{head, tail, is_max_goal}
 
 -- the time lag of a job: its time on the machines between machine a and machine b

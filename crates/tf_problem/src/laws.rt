@@ -1,6 +1,6 @@
 //! The laws by which a number bounds the task of a problem: each call does nothing, and its
 //! contract is the law.
-ghost use Rattle.tf_problem.specs.ProblemData.{ProblemData, IsProblemSound};
+ghost use Rattle.tf_posed.specs.ProblemData.{ProblemData, IsProblemSound};
 ghost use Rattle.tf_problem.specs.ProblemLaws.{CertificateLaw, BestLaw, RelaxationLaw, PushedLaw};
 ghost use Rattle.tf_problem.specs.ProblemLaws.{WindowLaw, CrowdLaw, OneJobLaw, MachineLaw};
 ghost use Rattle.tf_problem.specs.ProblemLaws.{MultiplierLaw, PricesLaw, CheapestLaw, AloneLaw};
@@ -13,7 +13,7 @@ ghost use Rattle.tf_problem.specs.Parts.{PartsLaw};
 ghost use Rattle.tf_problem.specs.MachinePrices.{MachinePricesLaw};
 ghost use Rattle.tf_problem.specs.Potentials.{PotentialsLaw};
 ghost use Rattle.tf_problem.specs.Split.{SplitLaw};
-ghost use Rattle.tf_problem.specs.Agreement.{FlowAgreementLaw, PosedLaw};
+ghost use Rattle.tf_problem.specs.FlowAgreement.{FlowAgreementLaw};
 
 /// A lower bound that a certificate gives of a relaxed task is one of the task.
 pub fn certificate_law()
@@ -150,11 +150,6 @@ pub fn potentials_law()
 /// machines, with the lags between them (Mitten 1959; Lenstra, Rinnooy Kan and Lageweg 1977).
 pub fn split_law()
     ensures { SplitLaw }
-{}
-
-/// Of a task of any class the same timetables fit as of its problem, and the same are best.
-pub fn posed_law()
-    ensures { PosedLaw }
 {}
 
 /// A job shop where all jobs visit all machines in the order of their numbers is a flow shop.

@@ -1,6 +1,6 @@
 -- What is known of a bound that a search found.
-use Rattle.tf_problem.specs.ProblemData.{ProblemData}
-use Rattle.tf_problem.specs.ProblemCost.{IsLowerBound}
+use Rattle.tf_posed.specs.ProblemData.{ProblemData}
+use Rattle.tf_posed.specs.ProblemCost.{IsLowerBound}
 use Rattle.tf_bound.specs.Certified.{IsBoundBy, IsValueOn}
 use Rattle.tf_search.specs.declared.strongest.Found.{Found}
 

@@ -2,7 +2,7 @@
 //!
 //! Nothing is promised of them: the judge computes what they bound.
 ghost use Rattle.std.specs.Prelude.{◌<◌, IsTrue};
-ghost use Rattle.tf_problem.specs.ProblemData.{IsProblemJob};
+ghost use Rattle.tf_posed.specs.ProblemData.{IsProblemJob};
 ghost use Rattle.tf_problem.specs.ProblemBounds.{is_by_machine};
 
 use crate::arc_links::Link;

@@ -5,7 +5,7 @@
 //! Nothing is promised of the search: the judge adds up what the jobs have to do.
 ghost use Rattle.std.specs.Prelude.{IsFalse};
 ghost use Rattle.tf_model.specs.ClassTable.{is_shop_env};
-ghost use Rattle.tf_problem.specs.ProblemData.{IsProblemJob};
+ghost use Rattle.tf_posed.specs.ProblemData.{IsProblemJob};
 
 use std::alloc::Allocator;
 use tf_bound::parts::{Interval, part_of};

@@ -5,7 +5,7 @@
 //! and so is the cost of a job. Nothing rests on it, since the judge computes what prices bound.
 ghost use Rattle.std.specs.Prelude.{◌≡◌, IsFalse};
 ghost use Rattle.tf_model.specs.ClassTable.{is_shop_env};
-ghost use Rattle.tf_problem.specs.ProblemData.{IsProblemJob};
+ghost use Rattle.tf_posed.specs.ProblemData.{IsProblemJob};
 
 use std::alloc::Allocator;
 use tf_bound::prices::is_by_unit;

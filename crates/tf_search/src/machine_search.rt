@@ -4,8 +4,8 @@
 //! (Horn 1974), and its window is the set of jobs.
 ghost use Rattle.std.specs.Prelude.{◌≡◌, ◌⊎◌, ◌<◌, IfOk, IfSome, IsTrue};
 ghost use Rattle.std.specs.List.{All};
-ghost use Rattle.tf_problem.specs.ProblemData.{IsProblemJob};
-ghost use Rattle.tf_problem.specs.ProblemCost.{IsLowerBound};
+ghost use Rattle.tf_posed.specs.ProblemData.{IsProblemJob};
+ghost use Rattle.tf_posed.specs.ProblemCost.{IsLowerBound};
 ghost use Rattle.tf_problem.specs.ProblemBounds.{is_by_machine};
 
 use std::alloc::{Allocator, Global};

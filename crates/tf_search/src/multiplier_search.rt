@@ -5,8 +5,8 @@
 ghost use Rattle.std.specs.Prelude.{◌≡◌, ◌≤◌, length, IfOk, IsTrue, IsFalse};
 ghost use Rattle.std.specs.List.{All};
 ghost use Rattle.tf_model.specs.ClassTable.{is_shop_env};
-ghost use Rattle.tf_problem.specs.ProblemData.{IsProblemJob};
-ghost use Rattle.tf_problem.specs.ProblemCost.{IsLowerBound};
+ghost use Rattle.tf_posed.specs.ProblemData.{IsProblemJob};
+ghost use Rattle.tf_posed.specs.ProblemCost.{IsLowerBound};
 
 use crate::sequence::best_order;
 use std::alloc::{Allocator, Global};

@@ -6,7 +6,7 @@
 //! side. Nothing is promised of it: the judge computes what it bounds.
 ghost use Rattle.std.specs.Prelude.{IsTrue};
 ghost use Rattle.tf_model.specs.ClassTable.{is_flow_env};
-ghost use Rattle.tf_problem.specs.ProblemData.{IsProblemJob};
+ghost use Rattle.tf_posed.specs.ProblemData.{IsProblemJob};
 ghost use Rattle.tf_bound.specs.Split.{ArePair};
 
 use std::alloc::Allocator;

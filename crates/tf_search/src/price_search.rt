@@ -4,7 +4,7 @@
 //! Nothing is promised of the prices: the judge computes what they bound.
 ghost use Rattle.std.specs.Prelude.{◌≡◌, ◌+◌, ◌<◌, length, IfOk, IsFalse};
 ghost use Rattle.tf_model.specs.ClassTable.{is_shop_env};
-ghost use Rattle.tf_problem.specs.ProblemCost.{IsLowerBound};
+ghost use Rattle.tf_posed.specs.ProblemCost.{IsLowerBound};
 
 use crate::effort::{Effort, Nobody, Progress};
 use crate::job_starts::JobStarts;

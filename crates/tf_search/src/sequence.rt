@@ -4,7 +4,7 @@
 ghost use Rattle.std.specs.Prelude.{◌≡◌, ◌<◌, ◌≤◌, length, IfOk, IsFalse};
 ghost use Rattle.std.specs.List.{All};
 ghost use Rattle.tf_model.specs.ClassTable.{is_shop_env};
-ghost use Rattle.tf_problem.specs.ProblemData.{ProblemData, IsProblemJob};
+ghost use Rattle.tf_posed.specs.ProblemData.{ProblemData, IsProblemJob};
 
 use std::alloc::Allocator;
 use tf_bound::fault::BoundFault;

@@ -4,7 +4,7 @@
 //! Nothing is promised of the prices: the judge computes what they bound.
 ghost use Rattle.std.specs.Prelude.{◌<◌, IsFalse, IsTrue};
 ghost use Rattle.tf_model.specs.ClassTable.{is_shop_env};
-ghost use Rattle.tf_problem.specs.ProblemData.{IsProblemJob};
+ghost use Rattle.tf_posed.specs.ProblemData.{IsProblemJob};
 ghost use Rattle.tf_problem.specs.ProblemBounds.{is_by_machine};
 
 use crate::effort::{Effort, Progress};

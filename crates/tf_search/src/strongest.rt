@@ -1,7 +1,7 @@
 //! The strongest of the lower bounds that judges and searches give of a task.
 ghost use Rattle.std.specs.Prelude.{◌≡◌, ◌⊎◌, IfOk, IfSome, IsTrue, IsFalse};
 ghost use Rattle.tf_model.specs.ClassTable.{is_shop_env};
-ghost use Rattle.tf_problem.specs.ProblemData.{ProblemData, IsProblemJob};
+ghost use Rattle.tf_posed.specs.ProblemData.{ProblemData, IsProblemJob};
 ghost use Rattle.tf_problem.specs.ProblemBounds.{is_max_goal, is_sum_goal};
 ghost use Rattle.tf_search.specs.Strongest.{IsFound, IsFoundOn};
 

@@ -1,7 +1,7 @@
 use Rattle.std.proofs.Common.{refl, subst}
 use Rattle.tf_model.specs.declared.problem.Problem.{Problem}
 use Rattle.tf_schedule.specs.Drawing.{drawing}
-use Rattle.tf_problem.specs.ProblemCost.{problem_cost_by}
+use Rattle.tf_posed.specs.ProblemCost.{problem_cost_by}
 use Rattle.tf_fit.specs.CostBy.{IsCostOrBeyond}
 use Rattle.tf_fit.specs.ProblemJudged.{FitsBy, IsJudgedBy}
 use Rattle.tf_assess.proofs.Assessing.{fits_judged}

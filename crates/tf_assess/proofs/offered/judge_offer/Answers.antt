@@ -1,7 +1,7 @@
 use Rattle.std.proofs.Common.{◌≡◌, SFits, Some, ap, rules, ⊎_elim}
 use Rattle.std.specs.Int.{w128}
 use Rattle.tf_bound_text.specs.BoundSheetData.{BoundSheetData, basis_of}
-use Rattle.tf_problem.specs.ProblemData.{ProblemData}
+use Rattle.tf_posed.specs.ProblemData.{ProblemData}
 use Rattle.tf_bound.specs.declared.fault.BoundFault.{BoundFault}
 use Rattle.tf_assess.proofs.Offering.{has_value, judged_fault}
 use Rattle.tf_assess.proofs.offered.judge_offer.Goals as goal

@@ -2,7 +2,7 @@ use Rattle.std.proofs.Common.{ℕ, ℤ, to_z, of_z, SFits, w64, map, fold, take,
 use Rattle.std.specs.Int.{int_max}
 use Rattle.std.proofs.lemmas.Int.{to_z-of_z}
 use Rattle.tf_check.proofs.JobLists.{fold-map_more}
-use Rattle.tf_problem.specs.ProblemData.{problem_due}
+use Rattle.tf_posed.specs.ProblemData.{problem_due}
 use Rattle.tf_bound.proofs.alike.greatest_due.Goals as goal
 
 pub loop-job-preserved : goal.loop-job-preserved

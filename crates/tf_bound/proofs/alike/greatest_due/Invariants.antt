@@ -1,6 +1,6 @@
 use Rattle.std.proofs.Common.{◌≡◌, map, fold, take, slice_index}
 use Rattle.std.specs.Int.{int_max}
-use Rattle.tf_problem.specs.ProblemData.{problem_due}
+use Rattle.tf_posed.specs.ProblemData.{problem_due}
 use Rattle.tf_bound.proofs.alike.greatest_due.Given as goal
 
 abbrev pub invariant-loop-job : goal.invariant-loop-job

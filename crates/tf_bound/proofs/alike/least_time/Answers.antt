@@ -1,6 +1,6 @@
 use Rattle.std.proofs.Common.{ℕ, map, min, fold, take, slice_index, sym, ap, ◌∙◌, arith}
 use Rattle.tf_check.proofs.JobLists.{fold-map_more}
-use Rattle.tf_problem.specs.ProblemData.{problem_time}
+use Rattle.tf_posed.specs.ProblemData.{problem_time}
 use Rattle.tf_bound.proofs.alike.least_time.Goals as goal
 
 pub loop-job-preserved : goal.loop-job-preserved

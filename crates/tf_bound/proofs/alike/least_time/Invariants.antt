@@ -1,6 +1,6 @@
 use Rattle.std.proofs.Common.{◌≡◌, ◌≤◌, map, min, fold, take, slice_index}
 use Rattle.tf_model.specs.Limit.{limit}
-use Rattle.tf_problem.specs.ProblemData.{problem_time}
+use Rattle.tf_posed.specs.ProblemData.{problem_time}
 use Rattle.tf_bound.proofs.alike.least_time.Given as goal
 
 abbrev pub invariant-loop-job : goal.invariant-loop-job

@@ -1,7 +1,7 @@
 use Rattle.std.proofs.Common.{◌≡◌, ℤ, SFits, to_z, of_z, sym, subst, ◌∙◌, rules}
 use Rattle.std.specs.Int.{w128}
 use Rattle.std.proofs.lemmas.Int.{to_z-of_z}
-use Rattle.tf_problem.specs.ProblemCost.{IsLowerBound}
+use Rattle.tf_posed.specs.ProblemCost.{IsLowerBound}
 use Rattle.tf_problem.specs.ProblemBounds.{one_job_value}
 use Rattle.tf_bound.proofs.Sound.{env_is, sound}
 use Rattle.tf_bound.proofs.alike.one_job_value.Goals as goal

@@ -1,7 +1,7 @@
 use Rattle.std.proofs.Common.{◌≡◌, ℤ, length, SFits, to_z, of_z, refl, sym, ◌∙◌, subst, rules}
 use Rattle.std.specs.Int.{w128}
 use Rattle.std.proofs.lemmas.Int.{to_z-of_z}
-use Rattle.tf_problem.specs.ProblemCost.{IsLowerBound}
+use Rattle.tf_posed.specs.ProblemCost.{IsLowerBound}
 use Rattle.tf_problem.specs.ProblemBounds.{window_value}
 use Rattle.tf_bound.proofs.Sound.{sound}
 use Rattle.tf_bound.proofs.Steps.{not_zero}

@@ -3,8 +3,8 @@ use Rattle.std.specs.Int.{w128}
 use Rattle.std.specs.List.{range_with_len}
 use Rattle.std.proofs.lemmas.Int.{ints}
 use Rattle.tf_model.proofs.Ranges.{sum_by-range_more}
-use Rattle.tf_problem.specs.ProblemData.{problem_release}
-use Rattle.tf_problem.specs.ProblemCost.{penalty, problem_cost}
+use Rattle.tf_posed.specs.ProblemData.{problem_release}
+use Rattle.tf_posed.specs.ProblemCost.{penalty, problem_cost}
 use Rattle.tf_problem.specs.ProblemBounds.{alone_cost, problem_work}
 use Rattle.tf_bound.proofs.Sound.{sound}
 use Rattle.tf_bound.proofs.alone.capped_cost.Goals as goal

@@ -1,8 +1,8 @@
 use Rattle.std.proofs.Common.{◌≡◌, ◌+◌, min, sum_by}
 use Rattle.std.specs.List.{range_with_len}
 use Rattle.tf_bound.specs.Certified.{most_value}
-use Rattle.tf_problem.specs.ProblemData.{problem_release}
-use Rattle.tf_problem.specs.ProblemCost.{penalty}
+use Rattle.tf_posed.specs.ProblemData.{problem_release}
+use Rattle.tf_posed.specs.ProblemCost.{penalty}
 use Rattle.tf_problem.specs.ProblemBounds.{problem_work}
 use Rattle.tf_bound.proofs.alone.capped_cost.Given as goal
 

@@ -2,7 +2,7 @@ use Rattle.std.proofs.Common.{◌≡◌, ℕ, ℤ, ◌+◌, ◌*◌, SFits, to_z
 use Rattle.std.specs.Int.{w64}
 use Rattle.std.proofs.lemmas.Int.{to_z-of_z}
 use Rattle.tf_model.specs.declared.problem.Problem.{Problem}
-use Rattle.tf_problem.specs.ProblemData.{problem_due, problem_release, problem_weight}
+use Rattle.tf_posed.specs.ProblemData.{problem_due, problem_release, problem_weight}
 use Rattle.tf_problem.specs.ProblemBounds.{problem_work}
 use Rattle.tf_bound.specs.Prices.{is_by_unit}
 use Rattle.tf_bound.specs.RowSums.{late_steps}

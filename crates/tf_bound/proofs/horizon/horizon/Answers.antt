@@ -1,5 +1,5 @@
 use Rattle.std.proofs.Common.{◌≡◌, ◌+◌, max, ap, ◌∙◌, arith}
-use Rattle.tf_problem.specs.ProblemData.{IsProblemJob, problem_release}
+use Rattle.tf_posed.specs.ProblemData.{IsProblemJob, problem_release}
 use Rattle.tf_problem.specs.ProblemBounds.{problem_work}
 use Rattle.tf_bound.proofs.Sound.{released_more, released_within, work_within}
 use Rattle.tf_model.proofs.Ranges.{sum_by-range_more}

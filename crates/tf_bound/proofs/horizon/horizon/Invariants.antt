@@ -1,7 +1,7 @@
 use Rattle.std.proofs.Common.{◌≡◌, ◌+◌, ◌≤◌, map, max, sum_by}
 use Rattle.std.specs.List.{fold, range_with_len}
 use Rattle.tf_model.specs.Limit.{limit}
-use Rattle.tf_problem.specs.ProblemData.{problem_release}
+use Rattle.tf_posed.specs.ProblemData.{problem_release}
 use Rattle.tf_problem.specs.ProblemBounds.{problem_work}
 use Rattle.tf_bound.specs.Sized.{all_work}
 use Rattle.tf_bound.proofs.horizon.horizon.Given as goal

@@ -1,6 +1,6 @@
 use Rattle.std.proofs.Common.{◌≡◌, ℕ, ◌+◌, ◌-◌, ◌<◌, ap, inr, sym, ◌∙◌, subst, get_or, set, take, length, replicate, [], true, false, List, Bool, refl, arith, count_by, ◌==◌}
 use Rattle.tf_model.specs.Distinct.{IsDistinct}
-use Rattle.tf_problem.specs.ProblemData.{ProblemData, IsProblemJob}
+use Rattle.tf_posed.specs.ProblemData.{ProblemData, IsProblemJob}
 use Rattle.tf_bound.proofs.Faults.{judged_bad, judged_twice, judged_more, judged_whole, stands_if}
 use Rattle.tf_bound.proofs.Marks.{AreMarks, as_one, marks_more, distinct}
 use Rattle.tf_bound.proofs.Steps.{all_whole}

@@ -1,6 +1,6 @@
 use Rattle.std.proofs.Common.{◌≡◌, ◌-◌, ℕ, List, ℤ, pos, length, to_z, refl, sym, ap, ◌∙◌, subst, rules}
 use Rattle.std.specs.Int.{w128}
-use Rattle.tf_problem.specs.ProblemCost.{IsLowerBound}
+use Rattle.tf_posed.specs.ProblemCost.{IsLowerBound}
 use Rattle.tf_problem.specs.Kept.{due_time, kept_value}
 use Rattle.tf_bound.specs.Optimal.{IsMinimum}
 use Rattle.tf_bound.proofs.Orders.{falls-none}

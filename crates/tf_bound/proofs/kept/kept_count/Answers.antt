@@ -1,6 +1,6 @@
 use Rattle.std.proofs.Common.{◌≡◌, ℕ, ◌-◌, ◌*◌, List, [], length, heap_items, sym, ap, ◌∙◌, arith}
 use Rattle.std.proofs.lemmas.List.{take_all}
-use Rattle.tf_problem.specs.ProblemData.{problem_time}
+use Rattle.tf_posed.specs.ProblemData.{problem_time}
 use Rattle.tf_problem.specs.Kept.{due_time, kept_by, put, room_by_due, within_room}
 use Rattle.tf_bound.specs.InOrder.{in_order}
 use Rattle.tf_bound.proofs.InOrder.{in_order-length}

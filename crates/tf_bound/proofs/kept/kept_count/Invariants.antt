@@ -1,7 +1,7 @@
 use Rattle.std.proofs.Common.{◌≡◌, ◌*◌, ◌≤◌, [], take, sum, heap_items, nat_cmp}
 use Rattle.std.specs.BinaryHeap.{IsHeap}
 use Rattle.tf_model.specs.Limit.{limit}
-use Rattle.tf_problem.specs.ProblemData.{problem_time}
+use Rattle.tf_posed.specs.ProblemData.{problem_time}
 use Rattle.tf_problem.specs.Kept.{kept_by, room_by_due}
 use Rattle.tf_bound.specs.InOrder.{in_order}
 use Rattle.tf_bound.proofs.kept.kept_count.Given as goal

@@ -1,7 +1,7 @@
 use Rattle.std.proofs.Common.{◌≡◌, ℕ, List, ℤ, pos, SFits, to_z, of_z, refl, sym, ap, ◌∙◌, subst, rules}
 use Rattle.std.specs.Int.{w128}
 use Rattle.std.proofs.lemmas.Int.{to_z-of_z}
-use Rattle.tf_problem.specs.ProblemCost.{IsLowerBound}
+use Rattle.tf_posed.specs.ProblemCost.{IsLowerBound}
 use Rattle.tf_problem.specs.Kept.{due_time, kept_weight}
 use Rattle.tf_bound.specs.Optimal.{IsMinimum}
 use Rattle.tf_bound.proofs.Orders.{falls-none}

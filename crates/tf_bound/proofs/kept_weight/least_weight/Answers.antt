@@ -1,5 +1,5 @@
 use Rattle.std.proofs.Common.{◌≡◌, ℕ, ◌+◌, ◌-◌, ◌*◌, List, length, slice_index, sym, ap, ◌∙◌, subst, arith}
-use Rattle.tf_problem.specs.ProblemData.{problem_time, problem_weight}
+use Rattle.tf_posed.specs.ProblemData.{problem_time, problem_weight}
 use Rattle.tf_problem.specs.Kept.{due_time, room_by_due}
 use Rattle.tf_bound.proofs.LateTable.{IsNext, IsTable, back-small, back-more, written}
 use Rattle.tf_bound.proofs.kept_weight.least_weight.Goals as goal

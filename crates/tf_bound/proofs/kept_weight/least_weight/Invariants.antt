@@ -1,5 +1,5 @@
 use Rattle.std.proofs.Common.{◌≡◌, ◌+◌, ◌-◌, length}
-use Rattle.tf_problem.specs.ProblemData.{problem_time, problem_weight}
+use Rattle.tf_posed.specs.ProblemData.{problem_time, problem_weight}
 use Rattle.tf_problem.specs.Kept.{room_by_due}
 use Rattle.tf_bound.proofs.LateTable.{IsTable}
 use Rattle.tf_bound.proofs.kept_weight.least_weight.Given as goal

@@ -1,6 +1,6 @@
 use Rattle.std.proofs.Common.{◌≡◌, ℕ, ℤ, pos, ◌-ℤ◌, map, fold, take, slice_index}
 use Rattle.std.specs.Int.{int_min}
-use Rattle.tf_problem.specs.ProblemData.{ProblemData, problem_due}
+use Rattle.tf_posed.specs.ProblemData.{ProblemData, problem_due}
 use Rattle.tf_problem.specs.ProblemBounds.{tail}
 use Rattle.tf_bound.proofs.machine.least_rest.Given as goal
 

@@ -1,6 +1,6 @@
 use Rattle.std.proofs.Common.{◌≡◌, ◌*◌, ◌≤◌, sum_by, take}
 use Rattle.tf_model.specs.Limit.{limit}
-use Rattle.tf_problem.specs.ProblemData.{problem_time_on}
+use Rattle.tf_posed.specs.ProblemData.{problem_time_on}
 use Rattle.tf_bound.proofs.machine.work_on.Given as goal
 
 abbrev pub invariant-loop-job : goal.invariant-loop-job

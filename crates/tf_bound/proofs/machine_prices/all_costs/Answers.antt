@@ -1,7 +1,7 @@
 use Rattle.std.proofs.Common.{◌≡◌, false, ◌+◌, sym, ap, arith}
 use Rattle.tf_model.proofs.Ranges.{sum_by-range_more}
 use Rattle.tf_problem.specs.MachinePrices.{cheapest_from}
-use Rattle.tf_problem.specs.ProblemData.{IsProblemJob}
+use Rattle.tf_posed.specs.ProblemData.{IsProblemJob}
 use Rattle.tf_bound.specs.Faulted.{is_dear_from}
 use Rattle.tf_bound.proofs.Firsts.{any_found, no_found, up_to_more}
 use Rattle.tf_bound.proofs.machine_prices.all_costs.Goals as goal

@@ -1,6 +1,6 @@
 use Rattle.std.proofs.Common.{◌≡◌, ℕ, ◌-◌, ◌*◌, slice_index, ap, ◌∙◌, arith}
 use Rattle.std.proofs.lemmas.Bool.{lt-ltb}
-use Rattle.tf_problem.specs.ProblemData.{IsProblemJob, problem_weight}
+use Rattle.tf_posed.specs.ProblemData.{IsProblemJob, problem_weight}
 use Rattle.tf_problem.specs.ProblemBounds.{numerator}
 use Rattle.tf_bound.specs.Faulted.{is_beyond}
 use Rattle.tf_bound.proofs.Faults.{not_lt}

@@ -1,5 +1,5 @@
 use Rattle.std.proofs.Common.{ℕ, ◌*◌, ◌≤◌}
-use Rattle.tf_problem.specs.ProblemData.{problem_weight}
+use Rattle.tf_posed.specs.ProblemData.{problem_weight}
 use Rattle.tf_problem.specs.ProblemBounds.{numerator}
 use Rattle.tf_bound.proofs.multipliers.first_beyond.Given as goal
 

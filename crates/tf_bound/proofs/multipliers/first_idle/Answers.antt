@@ -1,6 +1,6 @@
 use Rattle.std.proofs.Common.{ℕ, sym, ◌∙◌, arith}
 use Rattle.std.proofs.lemmas.Bool.{eq-eqb, ne_eqb}
-use Rattle.tf_problem.specs.ProblemData.{IsProblemJob, problem_time_on}
+use Rattle.tf_posed.specs.ProblemData.{IsProblemJob, problem_time_on}
 use Rattle.tf_bound.specs.Faulted.{is_idle, timed_machine}
 use Rattle.tf_bound.proofs.Firsts.{first_found, none_found}
 use Rattle.tf_bound.proofs.multipliers.first_idle.Goals as goal

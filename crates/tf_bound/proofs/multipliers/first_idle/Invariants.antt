@@ -1,5 +1,5 @@
 use Rattle.std.proofs.Common.{ℕ, ◌≤◌}
-use Rattle.tf_problem.specs.ProblemData.{problem_time_on}
+use Rattle.tf_posed.specs.ProblemData.{problem_time_on}
 use Rattle.tf_bound.specs.Faulted.{timed_machine}
 use Rattle.tf_bound.proofs.multipliers.first_idle.Given as goal
 

@@ -1,6 +1,6 @@
 use Rattle.std.proofs.Common.{ℕ, List, sym, subst, All}
-use Rattle.tf_problem.specs.ProblemData.{IsProblemJob}
-use Rattle.tf_problem.proofs.Relaxing.{All-problem_jobs}
+use Rattle.tf_posed.specs.ProblemData.{IsProblemJob}
+use Rattle.tf_posed.proofs.Conditions.{All-problem_jobs}
 use Rattle.tf_bound.proofs.multipliers.first_start.Goals as goal
 
 pub least_release-requires-clause-known : goal.least_release-requires-clause-known

@@ -1,6 +1,6 @@
 use Rattle.std.proofs.Common.{ℤ, sym, subst}
 use Rattle.std.proofs.lemmas.Result.{IfOk-weaker}
-use Rattle.tf_problem.specs.ProblemCost.{IsLowerBound}
+use Rattle.tf_posed.specs.ProblemCost.{IsLowerBound}
 use Rattle.tf_bound.proofs.Sound.{sound}
 use Rattle.tf_bound.proofs.multipliers.multipliers_bound.Goals as goal
 

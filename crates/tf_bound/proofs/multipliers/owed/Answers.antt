@@ -1,7 +1,7 @@
 use Rattle.std.proofs.Common.{◌≡◌, ◌||◌, false, ℕ, ℤ, pos, ◌+ℤ◌, ◌*ℤ◌, slice_index, length, SFits, to_z, of_z, ap, sym, ◌∙◌, arith, rules}
 use Rattle.std.specs.Int.{w64, w128}
 use Rattle.std.proofs.lemmas.Int.{to_z-of_z}
-use Rattle.tf_problem.specs.ProblemData.{IsProblemJob}
+use Rattle.tf_posed.specs.ProblemData.{IsProblemJob}
 use Rattle.tf_bound.specs.Faulted.{is_wide, owed_due, owed_to}
 use Rattle.tf_bound.proofs.Firsts.{any_found, no_found, up_to_more}
 use Rattle.tf_bound.proofs.Weighed.{owed_step}

@@ -5,7 +5,7 @@ use Rattle.std.proofs.lemmas.List.Sorted.{IsPermutation-refl}
 use Rattle.tf_check.proofs.RatioOrder.{weighted_more}
 use Rattle.tf_check.specs.Ratio.{jobs_of}
 use Rattle.tf_model.specs.SchedulingTask.{all_jobs}
-use Rattle.tf_problem.specs.ProblemData.{IsProblemJob}
+use Rattle.tf_posed.specs.ProblemData.{IsProblemJob}
 use Rattle.tf_problem.specs.ProblemBounds.{numerator}
 use Rattle.tf_problem.specs.Relaxed.{weighed_task}
 use Rattle.tf_bound.specs.Faulted.{timed_machine}

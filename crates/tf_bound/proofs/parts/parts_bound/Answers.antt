@@ -1,7 +1,7 @@
 use Rattle.std.proofs.Common.{◌≡◌, ◌*◌, ◌-◌, List, ℕ, ℤ, SFits, sum_by, to_z, of_z, refl, sym, ap, ◌∙◌, subst, arith, rules}
 use Rattle.std.specs.Int.{w128}
 use Rattle.std.proofs.lemmas.Int.{to_z-of_z}
-use Rattle.tf_problem.specs.ProblemCost.{IsLowerBound}
+use Rattle.tf_posed.specs.ProblemCost.{IsLowerBound}
 use Rattle.tf_problem.specs.Parts.{part_of, IsMoreThanRoom}
 use Rattle.tf_bound.proofs.Sound.{sound}
 use Rattle.tf_bound.proofs.parts.parts_bound.Goals as goal

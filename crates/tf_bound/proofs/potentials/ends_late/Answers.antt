@@ -1,7 +1,7 @@
 use Rattle.std.proofs.Common.{◌≡◌, ℕ, ℤ, pos, ◌+ℤ◌, ◌-ℤ◌, int_lt, List, SFits, to_z, of_z, ap, ◌∙◌, rules}
 use Rattle.std.specs.Int.{w64}
 use Rattle.std.proofs.lemmas.Int.{to_z-of_z}
-use Rattle.tf_problem.specs.ProblemData.{problem_due}
+use Rattle.tf_posed.specs.ProblemData.{problem_due}
 use Rattle.tf_problem.specs.ProblemBounds.{problem_work}
 use Rattle.tf_problem.specs.Potentials.{potential_of_end, potential_after}
 use Rattle.tf_bound.proofs.potentials.ends_late.Goals as goal

@@ -1,5 +1,5 @@
 use Rattle.std.proofs.Common.{◌≡◌, false, ℕ, sym, ◌∙◌, arith}
-use Rattle.tf_problem.specs.ProblemData.{IsProblemJob}
+use Rattle.tf_posed.specs.ProblemData.{IsProblemJob}
 use Rattle.tf_bound.specs.Faulted.{is_excessive}
 use Rattle.tf_bound.proofs.Firsts.{first_found, none_found, up_to_more}
 use Rattle.tf_bound.proofs.potentials.first_excessive.Goals as goal

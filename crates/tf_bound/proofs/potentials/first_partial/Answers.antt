@@ -1,6 +1,6 @@
 use Rattle.std.proofs.Common.{◌≡◌, ◌==◌, Bool, true, false, ℕ, ◌+◌, length, sym, ap, ◌∙◌, arith}
 use Rattle.std.specs.List.{list_any}
-use Rattle.tf_problem.specs.ProblemData.{IsProblemJob}
+use Rattle.tf_posed.specs.ProblemData.{IsProblemJob}
 use Rattle.tf_bound.specs.Faulted.{is_partial}
 use Rattle.tf_bound.proofs.Firsts.{first_found, none_found}
 use Rattle.tf_bound.proofs.potentials.first_partial.Goals as goal

@@ -1,5 +1,5 @@
 use Rattle.std.proofs.Common.{ℕ, sym, ◌∙◌, arith}
-use Rattle.tf_problem.specs.ProblemData.{IsProblemJob}
+use Rattle.tf_posed.specs.ProblemData.{IsProblemJob}
 use Rattle.tf_bound.specs.Faulted.{is_at_odds}
 use Rattle.tf_bound.proofs.Firsts.{any_found, no_found}
 use Rattle.tf_bound.proofs.potentials.has_odds.Goals as goal

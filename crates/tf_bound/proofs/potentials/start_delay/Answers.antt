@@ -1,6 +1,6 @@
 use Rattle.std.proofs.Common.{◌≡◌, ℕ, List, max, map, ap, ◌∙◌}
 use Rattle.std.specs.List.{fold, range_with_len}
-use Rattle.tf_problem.specs.ProblemData.{problem_job}
+use Rattle.tf_posed.specs.ProblemData.{problem_job}
 use Rattle.tf_bound.specs.Delays.{delay_of, delay_on}
 use Rattle.tf_bound.proofs.Routes.{flow_times}
 use Rattle.tf_bound.proofs.potentials.start_delay.Goals as goal

@@ -3,8 +3,8 @@ use Rattle.std.proofs.lemmas.Bool.{lt-ltb}
 use Rattle.std.proofs.lemmas.Int.{to_z-of_z}
 use Rattle.tf_model.specs.declared.problem.Problem.{Problem}
 use Rattle.tf_bound.specs.Prices.{is_by_unit}
-use Rattle.tf_problem.specs.ProblemCost.{penalty}
-use Rattle.tf_problem.specs.ProblemData.{problem_time, problem_weight}
+use Rattle.tf_posed.specs.ProblemCost.{penalty}
+use Rattle.tf_posed.specs.ProblemData.{problem_time, problem_weight}
 use Rattle.tf_model.specs.Limit.{limit}
 use Rattle.tf_bound.specs.Faulted.{last_start}
 use Rattle.tf_bound.specs.RowSums.{late_steps}

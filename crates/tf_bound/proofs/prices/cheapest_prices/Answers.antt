@@ -3,7 +3,7 @@ use Rattle.std.proofs.lemmas.List.{length_push}
 use Rattle.std.proofs.lemmas.List.Elements.{All-push}
 use Rattle.tf_model.specs.Limit.{limit}
 use Rattle.tf_problem.specs.ProblemBounds.{numerator}
-use Rattle.tf_problem.specs.ProblemData.{IsProblemJob}
+use Rattle.tf_posed.specs.ProblemData.{IsProblemJob}
 use Rattle.tf_bound.specs.Faulted.{is_dear}
 use Rattle.tf_bound.specs.Prices.{IsCheapestFor, IsPaidFor}
 use Rattle.tf_bound.proofs.Firsts.{any_found, no_found, up_to_more}

@@ -2,7 +2,7 @@ use Rattle.std.proofs.Common.{◌≡◌, ℕ, ◌-◌, ℤ, pos, List, SFits, ap
 use Rattle.std.specs.Int.{w64}
 use Rattle.std.specs.List.{range_with_len}
 use Rattle.std.proofs.lemmas.Int.{to_z-of_z}
-use Rattle.tf_problem.specs.ProblemData.{ProblemJobData, problem_job}
+use Rattle.tf_posed.specs.ProblemData.{ProblemJobData, problem_job}
 use Rattle.tf_problem.specs.Pushed.{pushed_job}
 use Rattle.tf_bound.proofs.Dates.{jobs_more}
 use Rattle.tf_bound.proofs.pushed.jobs_with.Goals as goal

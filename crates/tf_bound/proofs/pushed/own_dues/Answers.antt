@@ -3,7 +3,7 @@ use Rattle.std.specs.Int.{w64}
 use Rattle.std.specs.List.{range_with_len}
 use Rattle.std.proofs.lemmas.Int.{to_z-of_z}
 use Rattle.std.proofs.lemmas.List.FromFn.{get_or-map-range_with_len, length-map-range_with_len}
-use Rattle.tf_problem.specs.ProblemData.{problem_job}
+use Rattle.tf_posed.specs.ProblemData.{problem_job}
 use Rattle.tf_bound.specs.Judged.{AreKeptDues}
 use Rattle.tf_bound.proofs.Dates.{jobs_more}
 use Rattle.tf_bound.proofs.PushedDates.{kept_within}

@@ -1,7 +1,7 @@
 use Rattle.std.proofs.Common.{◌≡◌, Bool, true, false, not, refl, MatchOption, ℕ, ◌<◌, ℤ, List, length, IsTrue, sym, ap, ◌∙◌, subst, arith}
 use Rattle.tf_model.specs.declared.problem.Problem.{Problem}
-use Rattle.tf_problem.specs.ProblemData.{ProblemData}
-use Rattle.tf_problem.specs.ProblemCost.{IsLowerBound}
+use Rattle.tf_posed.specs.ProblemData.{ProblemData}
+use Rattle.tf_posed.specs.ProblemCost.{IsLowerBound}
 use Rattle.tf_bound.specs.Along.{AreWithin}
 use Rattle.tf_bound.specs.Judged.{AreHeads, AreMovedDues, AreDuesWithin, IsPushedTask}
 use Rattle.tf_bound.specs.Sized.{IsSized}

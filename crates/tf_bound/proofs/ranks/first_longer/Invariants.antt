@@ -1,6 +1,6 @@
 use Rattle.std.proofs.Common.{◌≡◌, drop}
 use Rattle.tf_model.specs.Limit.{limit}
-use Rattle.tf_problem.specs.ProblemData.{problem_time}
+use Rattle.tf_posed.specs.ProblemData.{problem_time}
 use Rattle.tf_bound.specs.Faulted.{rises_fault}
 use Rattle.tf_bound.proofs.ranks.first_longer.Given as goal
 

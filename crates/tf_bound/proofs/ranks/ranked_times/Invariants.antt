@@ -1,7 +1,7 @@
 use Rattle.std.proofs.Common.{◌≡◌, ◌+◌, ◌≤◌, drop}
 use Rattle.tf_model.specs.Limit.{limit}
 use Rattle.tf_model.proofs.RankSums.{ranked}
-use Rattle.tf_problem.specs.ProblemData.{problem_time}
+use Rattle.tf_posed.specs.ProblemData.{problem_time}
 use Rattle.tf_problem.specs.Ranks.{rank_value}
 use Rattle.tf_bound.proofs.ranks.ranked_times.Given as goal
 

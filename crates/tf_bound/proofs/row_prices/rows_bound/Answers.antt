@@ -1,8 +1,8 @@
 use Rattle.std.proofs.Common.{◌≡◌, ℕ, ◌*◌, ℤ, pos, ◌-ℤ◌, sum_by, SFits, to_z, of_z, sym, ap, ◌∙◌, subst, rules}
 use Rattle.std.specs.Int.{w128}
 use Rattle.std.proofs.lemmas.Int.{to_z-of_z}
-use Rattle.tf_problem.specs.ProblemData.{problem_jobs}
-use Rattle.tf_problem.specs.ProblemCost.{IsLowerBound}
+use Rattle.tf_posed.specs.ProblemData.{problem_jobs}
+use Rattle.tf_posed.specs.ProblemCost.{IsLowerBound}
 use Rattle.tf_problem.specs.ProblemBounds.{share_up, rows_cost, rows_value}
 use Rattle.tf_bound.proofs.Sound.{sound}
 use Rattle.tf_bound.proofs.row_prices.rows_bound.Goals as goal

@@ -1,5 +1,5 @@
 use Rattle.std.proofs.Common.{◌≡◌, drop}
-use Rattle.tf_problem.specs.ProblemData.{problem_release}
+use Rattle.tf_posed.specs.ProblemData.{problem_release}
 use Rattle.tf_bound.specs.Faulted.{falls_fault}
 use Rattle.tf_bound.proofs.shortest.first_released_early.Given as goal
 

@@ -1,8 +1,8 @@
 use Rattle.std.proofs.Common.{◌≡◌, ℕ, List, ℤ, pos, SFits, to_z, of_z, refl, sym, ap, ◌∙◌, subst, arith, rules}
 use Rattle.std.specs.Int.{w128}
 use Rattle.std.proofs.lemmas.Int.{to_z-of_z}
-use Rattle.tf_problem.specs.ProblemData.{problem_release}
-use Rattle.tf_problem.specs.ProblemCost.{IsLowerBound}
+use Rattle.tf_posed.specs.ProblemData.{problem_release}
+use Rattle.tf_posed.specs.ProblemCost.{IsLowerBound}
 use Rattle.tf_problem.specs.Shortest.{shortest_value}
 use Rattle.tf_bound.specs.Optimal.{IsMinimum}
 use Rattle.tf_bound.proofs.Orders.{falls-none}

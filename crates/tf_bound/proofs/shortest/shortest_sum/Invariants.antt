@@ -1,6 +1,6 @@
 use Rattle.std.proofs.Common.{◌≡◌, ◌+◌, ◌≤◌, min, drop, heap_items}
 use Rattle.std.specs.BinaryHeap.{IsHeap}
-use Rattle.tf_problem.specs.ProblemData.{problem_release, problem_time}
+use Rattle.tf_posed.specs.ProblemData.{problem_release, problem_time}
 use Rattle.tf_problem.specs.Kept.{IsRisingBy}
 use Rattle.tf_problem.specs.Shortest.{shortest_first, shortest_value}
 use Rattle.tf_bound.specs.InOrder.{by_shortest, most_total, rising_times}

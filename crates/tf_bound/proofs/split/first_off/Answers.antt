@@ -1,5 +1,5 @@
 use Rattle.std.proofs.Common.{rules, ◌≡◌, ℕ, Bool, false, not, ap, arith}
-use Rattle.tf_problem.specs.ProblemData.{IsProblemJob}
+use Rattle.tf_posed.specs.ProblemData.{IsProblemJob}
 use Rattle.tf_problem.specs.Split.{keeps_side}
 use Rattle.tf_bound.specs.Split.{marked}
 use Rattle.tf_bound.proofs.Firsts.{first_found, none_found}

@@ -1,5 +1,5 @@
 use Rattle.std.proofs.Common.{rules, ◌≡◌, ℕ, Bool, true, sym, arith}
-use Rattle.tf_problem.specs.ProblemData.{IsProblemJob}
+use Rattle.tf_posed.specs.ProblemData.{IsProblemJob}
 use Rattle.tf_problem.specs.Split.{reaches_delta}
 use Rattle.tf_bound.specs.Split.{marked}
 use Rattle.tf_bound.proofs.Firsts.{any_found, no_found}

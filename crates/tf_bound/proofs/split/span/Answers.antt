@@ -1,6 +1,6 @@
 use Rattle.std.proofs.Common.{ℕ, List, All, sym, subst}
-use Rattle.tf_problem.specs.ProblemData.{IsProblemJob}
-use Rattle.tf_problem.proofs.Relaxing.{All-problem_jobs}
+use Rattle.tf_posed.specs.ProblemData.{IsProblemJob}
+use Rattle.tf_posed.proofs.Conditions.{All-problem_jobs}
 use Rattle.tf_bound.proofs.split.span.Goals as goal
 
 pub least_head-requires-clause-known : goal.least_head-requires-clause-known

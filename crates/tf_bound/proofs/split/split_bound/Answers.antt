@@ -2,7 +2,7 @@ use Rattle.std.proofs.Common.{◌≡◌, [], Bool, ℕ, ℤ, List, cond, IfOk, O
 use Rattle.std.specs.Option.{option_or}
 use Rattle.std.proofs.lemmas.Bool.{lt-ltb}
 use Rattle.tf_model.specs.Bounds.{stands_in}
-use Rattle.tf_problem.specs.ProblemData.{IsProblemJob}
+use Rattle.tf_posed.specs.ProblemData.{IsProblemJob}
 use Rattle.tf_bound.specs.Kinds.{takes_split}
 use Rattle.tf_bound.specs.Faulted.{list_fault, machine_order, no_machine, other_kind, sides_fault, split_fault, NamesFault}
 use Rattle.tf_bound.specs.Split.{marked}

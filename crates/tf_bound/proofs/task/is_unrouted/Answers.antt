@@ -1,5 +1,5 @@
 use Rattle.std.proofs.Common.{◌≡◌, true, false, not, Bool, length, ap, sym, ◌∙◌}
-use Rattle.tf_problem.specs.ProblemData.{ProblemJobData}
+use Rattle.tf_posed.specs.ProblemData.{ProblemJobData}
 use Rattle.tf_bound.proofs.Refused.{unrouted_unfit}
 use Rattle.tf_bound.proofs.task.is_unrouted.Goals as goal
 

@@ -1,7 +1,7 @@
 use Rattle.std.proofs.Common.{◌+◌, ◌≤◌, refl, sym, ap, subst, arith}
 use Rattle.std.proofs.lemmas.Bool.{false≢true}
 use Rattle.tf_model.specs.Limit.{limit}
-use Rattle.tf_problem.specs.ProblemData.{ProblemJobData}
+use Rattle.tf_posed.specs.ProblemData.{ProblemJobData}
 use Rattle.tf_bound.proofs.Steps.{all_next, all_whole}
 use Rattle.tf_bound.proofs.task.is_within.Goals as goal
 

@@ -1,5 +1,5 @@
 use Rattle.std.proofs.Common.{refl}
-use Rattle.tf_problem.specs.ProblemData.{problem_jobs}
+use Rattle.tf_posed.specs.ProblemData.{problem_jobs}
 use Rattle.tf_plan.proofs.Laid.{order_fits}
 use Rattle.tf_plan.proofs.Named.{plain_order}
 use Rattle.tf_bounding.proofs.feasible.check_feasible.Goals as goal

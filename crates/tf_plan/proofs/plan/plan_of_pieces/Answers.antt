@@ -1,7 +1,7 @@
 use Rattle.std.proofs.Common.{rules, sym, ap, ◌∙◌}
 use Rattle.tf_model.specs.declared.problem.Problem.{Problem}
 use Rattle.tf_model.specs.Timetable.{Timetable}
-use Rattle.tf_problem.specs.ProblemCost.{problem_cost, problem_cost_by}
+use Rattle.tf_posed.specs.ProblemCost.{problem_cost, problem_cost_by}
 use Rattle.tf_schedule.specs.Drawing.{drawing}
 use mir.Syntax.{w128}
 use Rattle.std.proofs.lemmas.Int.{to_z-of_z}

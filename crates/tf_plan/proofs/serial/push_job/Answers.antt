@@ -1,6 +1,6 @@
 use Rattle.std.proofs.Common.{◌≡◌, ℕ, ◌+◌, ◌<◌, max, length, get_or, ap, ◌∙◌, arith}
 use Rattle.std.proofs.lemmas.List.{get_or_default}
-use Rattle.tf_problem.specs.ProblemData.{problem_job, problem_release}
+use Rattle.tf_posed.specs.ProblemData.{problem_job, problem_release}
 use Rattle.tf_bound.specs.Steps.{steps_of}
 use Rattle.tf_plan.proofs.Steps.{partly_start, partly_more, serial_more, few_times, next_time, front_small}
 use Rattle.tf_plan.proofs.serial.push_job.Goals as goal

@@ -1,7 +1,7 @@
 use Rattle.std.proofs.Common.{rules, ◌≡◌, ℤ, SFits, subst, sym, ◌∙◌}
 use Rattle.std.specs.Int.{w128}
 use Rattle.std.proofs.lemmas.Int.{to_z-of_z}
-use Rattle.tf_problem.specs.ProblemCost.{IsProblemBest}
+use Rattle.tf_posed.specs.ProblemCost.{IsProblemBest}
 use Rattle.tf_schedule.specs.Drawing.{drawing}
 use Rattle.tf_plan.specs.Plan.{IsPlan}
 use Rattle.tf_planning.specs.PlanText.{standing_of}

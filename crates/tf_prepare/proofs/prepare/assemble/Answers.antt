@@ -2,7 +2,7 @@ use Rattle.std.proofs.Common.{◌≡◌, ℕ, [], cond, List, inr, refl, sym, ap
 use Rattle.tf_model.specs.JobFields.{JobFields}
 use Rattle.tf_model.specs.InstanceData.{InstanceData}
 use Rattle.tf_model.specs.declared.problem.Problem.{Problem}
-use Rattle.tf_problem.specs.ProblemData.{ProblemData, ProblemJobData}
+use Rattle.tf_posed.specs.ProblemData.{ProblemData, ProblemJobData}
 use Rattle.tf_bound.specs.Sized.{IsSized}
 use Rattle.tf_prepare.specs.TimedData.{TimedData}
 use Rattle.tf_prepare.specs.Preparing.{jobs_in, task_in}

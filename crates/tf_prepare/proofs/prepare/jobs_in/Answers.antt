@@ -3,7 +3,7 @@ use Rattle.std.proofs.Math.Seq.{drop-cons}
 use Rattle.std.proofs.lemmas.List.{append-nil, drop_all}
 use Rattle.tf_model.specs.declared.problem.Problem.{Problem}
 use Rattle.tf_model.specs.JobFields.{JobFields}
-use Rattle.tf_problem.specs.ProblemData.{ProblemJobData}
+use Rattle.tf_posed.specs.ProblemData.{ProblemJobData}
 use Rattle.tf_prepare.specs.Preparing.{times_in, job_in, jobs_in}
 use Rattle.tf_prepare.proofs.prepare.jobs_in.Goals as goal
 

@@ -1,5 +1,5 @@
 use Rattle.std.proofs.Common.{◌≡◌, ℕ, List, inr, refl, sym, subst}
-use Rattle.tf_problem.specs.ProblemData.{ProblemData, ProblemJobData}
+use Rattle.tf_posed.specs.ProblemData.{ProblemData, ProblemJobData}
 use Rattle.tf_bound.specs.Sized.{IsSized}
 use Rattle.tf_prepare.specs.Preparing.{routed_task_in}
 use Rattle.tf_prepare.proofs.RoutesOf.{assembled}

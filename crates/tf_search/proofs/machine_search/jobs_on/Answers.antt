@@ -1,6 +1,6 @@
 use Rattle.std.proofs.Common.{arith}
 use Rattle.std.proofs.lemmas.List.Elements.{All-push}
-use Rattle.tf_problem.specs.ProblemData.{IsProblemJob}
+use Rattle.tf_posed.specs.ProblemData.{IsProblemJob}
 use Rattle.tf_search.proofs.machine_search.jobs_on.Goals as goal
 use Rattle.tf_search.proofs.machine_search.jobs_on.Goals.{then-time_on-gt0+in_ok-push, else-time_on-gt0}
 

@@ -1,7 +1,7 @@
 use Rattle.std.proofs.Common.{ℤ, SFits, sym, subst, rules}
 use Rattle.std.specs.Int.{w128}
 use Rattle.std.proofs.lemmas.Int.{to_z-of_z}
-use Rattle.tf_problem.specs.ProblemCost.{IsLowerBound}
+use Rattle.tf_posed.specs.ProblemCost.{IsLowerBound}
 use Rattle.tf_search.proofs.price_search.price_bound.Goals as goal
 
 pub returns : goal.returns

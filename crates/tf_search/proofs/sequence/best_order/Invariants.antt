@@ -1,5 +1,5 @@
 use Rattle.std.proofs.Common.{All}
-use Rattle.tf_problem.specs.ProblemData.{IsProblemJob}
+use Rattle.tf_posed.specs.ProblemData.{IsProblemJob}
 use Rattle.tf_search.proofs.sequence.best_order.Given as goal
 
 abbrev pub invariant-loop-look : goal.invariant-loop-look

@@ -1,5 +1,5 @@
 use Rattle.std.proofs.Common.{◌≡◌, length, All}
-use Rattle.tf_problem.specs.ProblemData.{IsProblemJob}
+use Rattle.tf_posed.specs.ProblemData.{IsProblemJob}
 use Rattle.tf_search.proofs.sequence.urgency_order.Given as goal
 
 abbrev pub invariant-loop : goal.invariant-loop

@@ -1,7 +1,7 @@
 use Rattle.std.proofs.Common.{ℤ, Option, IfSome, MatchOption, subst}
 use Rattle.std.proofs.lemmas.Result.{IfOk-weaker}
-use Rattle.tf_problem.specs.ProblemData.{ProblemData}
-use Rattle.tf_problem.specs.ProblemCost.{IsLowerBound}
+use Rattle.tf_posed.specs.ProblemData.{ProblemData}
+use Rattle.tf_posed.specs.ProblemCost.{IsLowerBound}
 use Rattle.tf_bound.specs.Judged.{IsJudgedTask}
 use Rattle.tf_search.proofs.strongest.strongest.Goals as goal
 

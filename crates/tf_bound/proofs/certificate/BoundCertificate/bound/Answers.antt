@@ -1,6 +1,6 @@
 use Rattle.std.proofs.Common.{Option, Result, Ok, Err, MatchOption, inl, inr, subst}
 use Rattle.std.proofs.lemmas.Result.{err_from_is_err_and, IfOk-weaker}
-use Rattle.tf_problem.specs.ProblemData.{ProblemData}
+use Rattle.tf_posed.specs.ProblemData.{ProblemData}
 use Rattle.tf_bound.specs.Judged.{IsJudgedTask}
 use Rattle.tf_bound.specs.Faulted.{certificate_fault, NamesFault}
 use Rattle.tf_bound.specs.Certified.{NamesFaultBy}

@@ -1,7 +1,7 @@
 use Rattle.std.proofs.Common.{◌≡◌, true, length, slice_index, sum, sum_by, take, ap, sym, subst, ◌∙◌, arith}
 use Rattle.tf_model.specs.ClassTable.{is_flow_env}
 use Rattle.tf_model.specs.declared.problem.Problem.{Problem}
-use Rattle.tf_problem.specs.ProblemData.{problem_job, is_job_shop}
+use Rattle.tf_posed.specs.ProblemData.{problem_job, is_job_shop}
 use Rattle.tf_problem.specs.ProblemBounds.{before}
 use Rattle.tf_bound.specs.Route.{IsRouted}
 use Rattle.tf_bound.proofs.Routes.{head_in_flow, flow_times, head_in_job_shop, has_route, work_small}

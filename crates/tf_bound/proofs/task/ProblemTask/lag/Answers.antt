@@ -1,5 +1,5 @@
 use Rattle.std.proofs.Common.{◌≡◌, ℕ, ◌+◌, ◌-◌, length, sum, take, drop, sym, ap, ◌∙◌, arith}
-use Rattle.tf_problem.specs.ProblemData.{problem_job}
+use Rattle.tf_posed.specs.ProblemData.{problem_job}
 use Rattle.tf_bound.proofs.Routes.{flow_times, part_small, range_sum, work_small}
 use Rattle.tf_bound.proofs.task.ProblemTask.lag.Goals as goal
 

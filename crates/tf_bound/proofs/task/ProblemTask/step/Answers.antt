@@ -2,7 +2,7 @@ use Rattle.std.proofs.Common.{◌≡◌, ◌+◌, ◌<◌, false, ℕ, length, s
 use Rattle.std.specs.List.{range_with_len}
 use Rattle.std.proofs.lemmas.List.FromFn.{length-range_with_len, get_or-range_with_len}
 use Rattle.tf_model.specs.declared.problem.Problem.{Problem}
-use Rattle.tf_problem.specs.ProblemData.{problem_job, is_job_shop}
+use Rattle.tf_posed.specs.ProblemData.{problem_job, is_job_shop}
 use Rattle.tf_bound.specs.Steps.{steps_of}
 use Rattle.tf_bound.proofs.StepsOf.{steps_elsewhere, steps_timed, steps_below}
 use Rattle.tf_bound.proofs.task.ProblemTask.step.Goals as goal

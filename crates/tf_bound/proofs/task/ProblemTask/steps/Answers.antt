@@ -1,7 +1,7 @@
 use Rattle.std.proofs.Common.{◌≡◌, false, ℕ, length, List, ap, sym, ◌∙◌}
 use Rattle.std.proofs.lemmas.List.FromFn.{length-range_with_len}
 use Rattle.tf_model.specs.declared.problem.Problem.{Problem}
-use Rattle.tf_problem.specs.ProblemData.{problem_job, is_job_shop}
+use Rattle.tf_posed.specs.ProblemData.{problem_job, is_job_shop}
 use Rattle.tf_bound.proofs.StepsOf.{steps_elsewhere}
 use Rattle.tf_bound.proofs.task.ProblemTask.steps.Goals as goal
 

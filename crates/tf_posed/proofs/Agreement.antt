@@ -17,11 +17,11 @@ use Rattle.tf_model.specs.Feasible.{IsKept, Fits}
 use Rattle.tf_model.specs.Cost.{cost, cost_by, price, price_by, greatest, IsBest}
 use Rattle.tf_model.specs.Sound.{IsSound}
 use Rattle.tf_model.proofs.Sums.{sum_by-same_all}
-use Rattle.tf_problem.specs.ProblemData.{ProblemData, problem_job, problem_jobs}
-use Rattle.tf_problem.specs.FitsProblem.{FitsProblem}
-use Rattle.tf_problem.specs.ProblemCost.{problem_cost, problem_cost_by, lateness, IsProblemBest}
-use Rattle.tf_problem.specs.Agreement.{posed, costed_by, costed_cost, IsCostedBest, IsSamePlain, IsSameTask, PosedLaw}
-use Rattle.tf_problem.proofs.Conditions.{counted, All-all_jobs, no_prmu, no_nwt, size, its_job, amount_to, amount_from, whole_to, whole_from, released_to, released_from, route_to, route_from, posed-sound}
+use Rattle.tf_posed.specs.ProblemData.{ProblemData, problem_job, problem_jobs}
+use Rattle.tf_posed.specs.FitsProblem.{FitsProblem}
+use Rattle.tf_posed.specs.ProblemCost.{problem_cost, problem_cost_by, lateness, IsProblemBest}
+use Rattle.tf_posed.specs.Agreement.{posed, costed_by, costed_cost, IsCostedBest, IsSamePlain, IsSameTask, PosedLaw}
+use Rattle.tf_posed.proofs.Conditions.{counted, All-all_jobs, no_prmu, no_nwt, size, its_job, amount_to, amount_from, whole_to, whole_from, released_to, released_from, route_to, route_from, posed-sound}
 
 -- ---- lists
 

@@ -1,7 +1,5 @@
 -- Of a task of a class the definitions of this crate mean what those of the class mean.
 use Rattle.std.specs.Prelude.{◌≡◌, ℕ, ◌-◌, ℤ, ◌≤ℤ◌, ◌↔◌, List, [], ◌∷◌, map, slice_index_or, if◌then◌else◌, IsFalse}
-use Rattle.std.specs.List.{range_with_len}
-use Rattle.tf_model.specs.declared.problem.Env.TheVariants.{Flow, JobShop}
 use Rattle.tf_model.specs.declared.problem.Goal.{Goal}
 use Rattle.tf_model.specs.declared.problem.Goal.TheVariants as goals
 use Rattle.tf_model.specs.declared.problem.Problem.{Problem}
@@ -12,9 +10,9 @@ use Rattle.tf_model.specs.Timetable.{Timetable, completion}
 use Rattle.tf_model.specs.Feasible.{Fits}
 use Rattle.tf_model.specs.Cost.{cost, greatest, IsBest}
 use Rattle.tf_model.specs.Sound.{IsSound}
-use Rattle.tf_problem.specs.ProblemData.{ProblemData, ProblemJobData, IsProblemSound, IsProblemJob, problem_jobs, problem_job}
-use Rattle.tf_problem.specs.FitsProblem.{FitsProblem}
-use Rattle.tf_problem.specs.ProblemCost.{problem_cost, problem_cost_by, IsProblemBest}
+use Rattle.tf_posed.specs.ProblemData.{ProblemData, ProblemJobData, IsProblemSound, problem_jobs}
+use Rattle.tf_posed.specs.FitsProblem.{FitsProblem}
+use Rattle.tf_posed.specs.ProblemCost.{problem_cost, problem_cost_by, IsProblemBest}
 
 -- ---- the task of a class as one of its problem
 
@@ -76,20 +74,3 @@ pub record IsSameTask (k : SchedulingTask) (other : ProblemData) : Type 0 where
 abbrev pub PosedLaw : Type 0
 PosedLaw = (k : SchedulingTask) (p : Problem) → IsSound k → IsOfClass p k.class
     → IsSameTask k (record (posed k) { problem = p })
-
--- ---- job shops and flow shops
-
--- the same jobs in a flow shop
-abbrev pub in_flow_shop : ProblemData → ProblemData
-in_flow_shop k = record k { problem = record k.problem { env = Flow } }
-
--- the same timetables fit, and they cost the same
-pub record IsSameProblem (k other : ProblemData) : Type 0 where
-  pub fits : (rows : Timetable) → FitsProblem k rows ↔ FitsProblem other rows
-  pub costs : (rows : Timetable) → problem_cost k rows ≡ problem_cost other rows
-
--- a job shop where each route is of all machines in the order of their numbers is a flow shop
-abbrev pub FlowAgreementLaw : Type 0
-FlowAgreementLaw = (k : ProblemData) → k.problem.env ≡ JobShop
-    → ((j : ℕ) → IsProblemJob k j → (problem_job k j).route ≡ range_with_len 0 k.machines)
-    → IsSameProblem k (in_flow_shop k)

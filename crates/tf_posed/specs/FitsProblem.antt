@@ -5,7 +5,7 @@ use Rattle.std.specs.List.Sorted.{IsPermutation}
 use Rattle.tf_model.specs.ClassTable.{is_shop_env}
 use Rattle.tf_model.specs.Timetable.{Timetable, cell, units, all_units}
 use Rattle.tf_model.specs.Feasible.{EachJob, IsOnce, IsKept}
-use Rattle.tf_problem.specs.ProblemData.{ProblemData, problem_jobs, problem_job, problem_time, problem_time_on, route_of}
+use Rattle.tf_posed.specs.ProblemData.{ProblemData, problem_jobs, problem_job, problem_time, problem_time_on, route_of}
 
 -- ---- what is asked of a job
 

@@ -6,8 +6,8 @@ use Rattle.tf_model.specs.declared.problem.Goal.TheVariants as goals
 use Rattle.tf_model.specs.Timetable.{Timetable, completion}
 use Rattle.tf_model.specs.Cost.{greatest}
 use Rattle.tf_model.specs.Whole.{as_time}
-use Rattle.tf_problem.specs.ProblemData.{ProblemData, problem_jobs, problem_job}
-use Rattle.tf_problem.specs.FitsProblem.{FitsProblem}
+use Rattle.tf_posed.specs.ProblemData.{ProblemData, problem_jobs, problem_job}
+use Rattle.tf_posed.specs.FitsProblem.{FitsProblem}
 
 -- the completion minus the due date
 abbrev pub lateness : ProblemData → ℕ → ℕ → ℤ

@@ -1,6 +1,6 @@
 -- Each condition of a task of a class is that of its problem, job by job; and where it has no cost
 -- functions, the task of its problem is sound.
-use Rattle.std.proofs.Common.{◌≡◌, Bool, true, false, ℕ, zero, suc, ◌-◌, ◌≤◌, ◌<◌, Option, [], ◌∷◌, length, slice_index, slice_index_or, cond, refl, sym, ap, ◌∙◌, subst, arith, All, IsTrue, IsFalse}
+use Rattle.std.proofs.Common.{◌≡◌, Bool, true, false, ℕ, zero, suc, ◌+◌, ◌-◌, ◌≤◌, ◌<◌, Option, [], ◌∷◌, length, slice_index, slice_index_or, cond, refl, sym, ap, ◌∙◌, subst, arith, All, IsTrue, IsFalse}
 use Rattle.std.specs.List.{AllPairs, range_with_len}
 use Rattle.std.proofs.lemmas.Bool.{false≢true, true≢false}
 use Rattle.std.proofs.lemmas.List.FromFn.{length-range_with_len, get_or-range_with_len, get_or-map-range_with_len, length-map-range_with_len}
@@ -14,10 +14,17 @@ use Rattle.tf_model.specs.SchedulingTask.{SchedulingTask, all_jobs, IsJob, job_d
 use Rattle.tf_model.specs.Feasible.{HasAmount, IsWhole, IsReleased, IsInFlow}
 use Rattle.tf_model.specs.Sound.{IsSound}
 use Rattle.tf_model.proofs.Classes.{flow_is_shop}
-use Rattle.tf_problem.specs.ProblemData.{is_job_shop, is_covered, needs_time, route_by, ProblemData, IsProblemSound, IsProblemJob, problem_job, problem_time, problem_time_on, time_over, no_problem_job}
-use Rattle.tf_problem.specs.FitsProblem.{HasProblemTime, IsProblemUnbroken, IsProblemReleased, VisitsFirst, IsOnRoute}
-use Rattle.tf_problem.specs.Agreement.{posed, posed_job}
-use Rattle.tf_problem.proofs.Relaxing.{All-problem_jobs}
+use Rattle.tf_posed.specs.ProblemData.{is_job_shop, is_covered, needs_time, route_by, ProblemData, IsProblemSound, IsProblemJob, problem_job, problem_jobs, problem_time, problem_time_on, time_over, no_problem_job}
+use Rattle.tf_posed.specs.FitsProblem.{HasProblemTime, IsProblemUnbroken, IsProblemReleased, VisitsFirst, IsOnRoute}
+use Rattle.tf_posed.specs.Agreement.{posed, posed_job}
+
+-- what holds of each job holds all along the jobs
+pub All-problem_jobs : (k : ProblemData) (P : ℕ → Type 0) → ((j : ℕ) → IsProblemJob k j → P j)
+    → All P (problem_jobs k)
+All-problem_jobs k P all i d h =
+    let in' : i < length k.jobs = omega (arith, length-range_with_len 1 (length k.jobs)) in
+    subst P (sym (get_or-range_with_len 1 (length k.jobs) i d in'))
+    (all (1 + i) (omega arith, omega arith))
 
 pub no_prmu : (c : Class) → (notation_of c).prmu ≡ false
 no_prmu WeightedSum = refl
