@@ -26,9 +26,9 @@ use Rattle.tf_schedule.specs.declared.fit.Misfit.{Misfit}
 use Rattle.tf_schedule.specs.declared.fit.Misfit.TheVariants.{Stranger, JobTwice, WrongAmount, Broken, TooEarly, OutOfOrder, OutOfMemory}
 use Rattle.tf_schedule.specs.Drawing.{drawing}
 use Rattle.tf_schedule.specs.Misfit.{IsFirstNot, IsSmallestNot}
-use Rattle.tf_fit.specs.declared.misfit.ProblemMisfit.{ProblemMisfit}
-use Rattle.tf_fit.specs.declared.misfit.ProblemMisfit.TheVariants.{Plain, OffRoute, NoOneOrder, Waits}
-use Rattle.tf_fit.specs.ProblemMisfit.{IsKnownTo, AllOnce, AllFull, AllUnbroken, AllReleased, AllKept, AllOnRoute, AllInOneOrder, HasFirstPlain, HasFirstMisfit}
+use Rattle.tf_schedule.specs.declared.misfit.ProblemMisfit.{ProblemMisfit}
+use Rattle.tf_schedule.specs.declared.misfit.ProblemMisfit.TheVariants.{Plain, OffRoute, NoOneOrder, Waits}
+use Rattle.tf_schedule.specs.ProblemMisfit.{IsKnownTo, AllOnce, AllFull, AllUnbroken, AllReleased, AllKept, AllOnRoute, AllInOneOrder, HasFirstPlain, HasFirstMisfit}
 use Rattle.tf_assess.specs.Measures.{by_goal}
 use Rattle.tf_assess.proofs.Serving.{job_for, task_for}
 

@@ -17,7 +17,7 @@ use Rattle.tf_schedule.specs.Lanes.{LanesData, HasLanes}
 use Rattle.tf_fit.specs.CostBy.{IsCostOrBeyond}
 use Rattle.tf_evaluate.specs.Outcomes.{outcome_on}
 use Rattle.tf_evaluate.proofs.PermutedOutcomes.{sorted_outcomes}
-use Rattle.tf_fit.specs.ProblemJudged.{FitsBy}
+use Rattle.tf_schedule.specs.ProblemJudged.{FitsBy}
 use Rattle.tf_search.specs.declared.strongest.Found.{Found}
 use Rattle.tf_search.specs.Strongest.{IsFound}
 use Rattle.tf_text.specs.AnswerText.{SheetData}
@@ -57,14 +57,14 @@ pub table_outcomes : (k : ProblemData) (ps : List Piece) (fit : ProblemFit) (l :
     → HasProblemTable k ps fit (Some l)
     → map (outcome_on (counted_by k) l) (problem_jobs k) ≡ problem_outcomes k ps (Some fit)
 table_outcomes k ps (Fits value) l (qs, kept, schedule, l', is, has) =
-    sorted_outcomes (counted_by k) false (length k.jobs) ps qs kept schedule l
+    sorted_outcomes (counted_by k) (length k.jobs) ps qs kept schedule l
     (subst (HasLanes false (length k.jobs) qs) (same l l' is) has)
   where
     same : (l l' : LanesData) → Some l ≡ Some l' → l' ≡ l
     same l l' e = cc
 table_outcomes k ps (NoSchedule fault) l is = absurd (cc)
 table_outcomes k ps (Misfit misfit) l (qs, kept, schedule, l', is, has) =
-    sorted_outcomes (counted_by k) false (length k.jobs) ps qs kept schedule l
+    sorted_outcomes (counted_by k) (length k.jobs) ps qs kept schedule l
     (subst (HasLanes false (length k.jobs) qs) (same l l' is) has)
   where
     same : (l l' : LanesData) → Some l ≡ Some l' → l' ≡ l

@@ -15,8 +15,8 @@ use Rattle.tf_schedule.specs.Drawing.{drawing}
 use Rattle.tf_schedule.specs.Lanes.{LanesData, HasLanes}
 use Rattle.tf_schedule.specs.Schedule.{IsSchedule, HasFirstFault}
 use Rattle.tf_fit.specs.CostBy.{IsCostOrBeyond}
-use Rattle.tf_fit.specs.ProblemMisfit.{IsKnownTo}
-use Rattle.tf_fit.specs.ProblemJudged.{FitsBy}
+use Rattle.tf_schedule.specs.ProblemMisfit.{IsKnownTo}
+use Rattle.tf_schedule.specs.ProblemJudged.{FitsBy}
 use Rattle.tf_assess.specs.declared.assessment.ProblemFit.{ProblemFit}
 use Rattle.tf_assess.specs.declared.assessment.ProblemFit.TheVariants.{Fits, NoSchedule, Misfit}
 use Rattle.tf_assess.specs.Assessing.{IsProblemJudged, value_in}

@@ -13,9 +13,9 @@ use Rattle.tf_schedule.specs.Schedule.{IsPiece, IsSchedule, HasFirstFault}
 use Rattle.tf_schedule.specs.Drawing.{Draws}
 use Rattle.tf_schedule.specs.Lanes.{LanesData, HasLanes}
 use Rattle.tf_fit.specs.CostBy.{IsCostOrBeyond, counted_at}
-use Rattle.tf_fit.specs.declared.misfit.ProblemMisfit.{ProblemMisfit}
-use Rattle.tf_fit.specs.ProblemJudged.{IsJudgedBy}
-use Rattle.tf_fit.specs.ProblemMisfit.{HasFirstMisfit}
+use Rattle.tf_schedule.specs.declared.misfit.ProblemMisfit.{ProblemMisfit}
+use Rattle.tf_schedule.specs.ProblemJudged.{IsJudgedBy}
+use Rattle.tf_schedule.specs.ProblemMisfit.{HasFirstMisfit}
 use Rattle.tf_search.specs.declared.strongest.Found.{Found}
 use Rattle.tf_search.specs.Strongest.{IsFound}
 use Rattle.tf_text.specs.AnswerText.{SheetData}

@@ -6,8 +6,8 @@ use Rattle.tf_notation.specs.Canonical.{canonical}
 use Rattle.tf_posed.specs.ProblemData.{ProblemData}
 use Rattle.tf_text.specs.AnswerText.{line_text}
 use Rattle.tf_engine.specs.VerdictLine.{piece_fault_words, misfit_words}
-use Rattle.tf_fit.specs.declared.misfit.ProblemMisfit.{ProblemMisfit}
-use Rattle.tf_fit.specs.declared.misfit.ProblemMisfit.TheVariants.{Plain, OffRoute, NoOneOrder, Waits}
+use Rattle.tf_schedule.specs.declared.misfit.ProblemMisfit.{ProblemMisfit}
+use Rattle.tf_schedule.specs.declared.misfit.ProblemMisfit.TheVariants.{Plain, OffRoute, NoOneOrder, Waits}
 use Rattle.tf_bound.specs.declared.fault.BoundFault.{BoundFault}
 use Rattle.tf_bound.specs.declared.fault.BoundFault.TheVariants as faults
 use Rattle.tf_search.specs.declared.strongest.Found.{Found}

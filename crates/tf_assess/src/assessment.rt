@@ -2,7 +2,7 @@
 use std::alloc::{Allocator, Global};
 use tf_bound::fault::BoundFault;
 use tf_evaluate::evaluation::JobOutcome;
-use tf_fit::misfit::ProblemMisfit;
+use tf_schedule::misfit::ProblemMisfit;
 use tf_schedule::schedule::PieceFault;
 use tf_search::strongest::Found;
 

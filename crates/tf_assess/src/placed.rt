@@ -9,11 +9,11 @@ use crate::measures::PosedInstance;
 use std::alloc::Allocator;
 use tf_bound::task::ProblemTask;
 use tf_fit::cost::cost_by;
-use tf_fit::judge::{ProblemJudged, judge_problem};
 use tf_model::memory::OutOfMemory;
 use tf_model::prepare::Refusal;
 use tf_model::problem::{Goal, Problem};
 use tf_prepare::prepare::{prepare_problem, uses_due};
+use tf_schedule::judge::{ProblemJudged, judge_problem};
 use tf_schedule::lanes::Lanes;
 use tf_schedule::schedule::{PieceFault, Schedule};
 

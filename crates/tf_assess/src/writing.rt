@@ -15,10 +15,10 @@ use tf_bound::task::ProblemTask;
 use tf_bounding::writing::push_certificate;
 use tf_engine::verdict_line::{push_misfit, push_piece_fault};
 use tf_evaluate::writing::{push_claimed, push_outcomes};
-use tf_fit::misfit::ProblemMisfit;
 use tf_model::ids::JobId;
 use tf_model::memory::OutOfMemory;
 use tf_notation::writing::notation_text;
+use tf_schedule::misfit::ProblemMisfit;
 use tf_search::strongest::Found;
 use tf_text::answer::writing::{push_number, push_number_line};
 

@@ -11,6 +11,7 @@ pub mod Marks
 pub mod Sides
 pub mod Routes
 pub mod StepsOf
+pub mod Limited
 pub mod Weighed
 pub mod RaisedDates
 pub mod Dates

@@ -5,6 +5,7 @@ pub mod alike;
 pub mod alone;
 mod along;
 mod arc_multipliers;
+mod asks;
 pub mod certificate;
 pub mod fault;
 pub mod horizon;

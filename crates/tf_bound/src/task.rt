@@ -109,7 +109,7 @@ fn is_flow(env: Env) -> bool
     matches!(env, Env::Flow)
 }
 
-fn is_job_shop(env: Env) -> bool
+pub(crate) fn is_job_shop(env: Env) -> bool
     ensures { result ≡ is_job_shop env }
 {
     matches!(env, Env::JobShop)

@@ -1,7 +1,6 @@
 -- How the pieces of an answer stand to a task.
-use Rattle.std.specs.Prelude.{◌≡◌, ◌≢◌, ℤ, List, length, Option, Some, None, Result, Ok, Err}
+use Rattle.std.specs.Prelude.{◌≡◌, ◌≢◌, ℤ, false, List, length, Option, Some, None, Result, Ok, Err}
 use Rattle.std.specs.List.Sorted.{IsPermutation}
-use Rattle.tf_model.specs.ClassTable.{is_shop}
 use Rattle.tf_model.specs.Cost.{cost}
 use Rattle.tf_model.specs.SchedulingTask.{SchedulingTask}
 use Rattle.tf_model.specs.Timetable.{Timetable}
@@ -26,7 +25,7 @@ IsJudged k ps (Misfit misfit) = (qs : List Piece) × IsPermutation ps qs × IsSc
 abbrev pub HasTable : SchedulingTask → List Piece → Fit → Option LanesData → Type 0
 HasTable k ps (NoSchedule fault) lanes = lanes ≡ None
 HasTable k ps _ lanes = (qs : List Piece) × IsPermutation ps qs × IsSchedule qs
-    × (l : LanesData) × (lanes ≡ Some l) × HasLanes (is_shop k.class) (length k.jobs) qs l
+    × (l : LanesData) × (lanes ≡ Some l) × HasLanes false (length k.jobs) qs l
 
 -- what a schedule comes to, that is there
 abbrev pub fit_from : Result ℤ MisfitOf → Fit

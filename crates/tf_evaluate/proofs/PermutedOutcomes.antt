@@ -6,7 +6,6 @@ use Rattle.std.proofs.lemmas.Bool.{cases_lt}
 use Rattle.std.proofs.lemmas.List.Sorted.{All-permutation, IsPermutation-sym}
 use Rattle.tf_model.specs.Limit.{limit}
 use Rattle.tf_model.specs.Cost.{price}
-use Rattle.tf_model.specs.ClassTable.{is_shop}
 use Rattle.tf_model.specs.SchedulingTask.{SchedulingTask, IsJob, all_jobs}
 use Rattle.tf_schedule.specs.declared.piece.Piece.{Piece}
 use Rattle.tf_schedule.specs.Amounts.{greatest_by, least_by, last_stop, start_of}
@@ -95,18 +94,18 @@ map_range {X} f g a (suc n) same =
     ∙ ap (λ (xs : List X). g a ∷ xs)
     (map_range f g (a + 1) n (λ j low high. same j (omega arith) (omega arith)))
 
-module _ (counted : ℕ → ℕ → ℤ) (is_shop : Bool) (n : ℕ) (qs : List Piece) (schedule : IsSchedule qs)
-    (l : LanesData) (has : HasLanes is_shop n qs l) where
+module _ (counted : ℕ → ℕ → ℤ) (n : ℕ) (qs : List Piece) (schedule : IsSchedule qs)
+    (l : LanesData) (has : HasLanes false n qs l) where
   pub stops_within : (j : ℕ) → 1 ≤ j → j ≤ n → stop_in l j ≤ limit
   stops_within j low high =
-      omega (arith, stop_is is_shop n qs l has j low high, stop_within qs schedule.sound j)
+      omega (arith, stop_is false n qs l has j low high, stop_within qs schedule.sound j)
 
   in_table : map (outcome_on counted l) (range_with_len 1 n)
       ≡ map (outcome_by counted qs) (range_with_len 1 n)
   in_table = map_range (outcome_on counted l) (outcome_by counted qs) 1 n (λ j low high.
       let at_most : j ≤ n = omega (arith, high) in
-      let starts = start_is is_shop n qs l has j low at_most in
-      let ends = stop_is is_shop n qs l has j low at_most in
+      let starts = start_is false n qs l has j low at_most in
+      let ends = stop_is false n qs l has j low at_most in
       ap (with_stop j (start_in l j)) ends ∙ ap (λ s. with_stop j s (last_stop qs j)) starts)
     where
       with_stop : ℕ → ℕ → ℕ → JobOutcome
@@ -118,26 +117,26 @@ module _ (counted : ℕ → ℕ → ℤ) (is_shop : Bool) (n : ℕ) (qs : List P
       }
 
 -- by the table of a schedule, and by the pieces that it sorts
-pub sorted_outcomes : (counted : ℕ → ℕ → ℤ) (is_shop : Bool) (n : ℕ) (ps qs : List Piece)
-    → IsPermutation ps qs → IsSchedule qs → (l : LanesData) → HasLanes is_shop n qs l
+pub sorted_outcomes : (counted : ℕ → ℕ → ℤ) (n : ℕ) (ps qs : List Piece)
+    → IsPermutation ps qs → IsSchedule qs → (l : LanesData) → HasLanes false n qs l
     → map (outcome_on counted l) (range_with_len 1 n) ≡ map (outcome_by counted ps) (range_with_len 1 n)
-sorted_outcomes counted is_shop n ps qs kept schedule l has =
-    in_table counted is_shop n qs schedule l has
+sorted_outcomes counted n ps qs kept schedule l has =
+    in_table counted n qs schedule l has
     ∙ map_same (outcome_by counted qs) (outcome_by counted ps) (outcome_same counted ps qs kept)
     (range_with_len 1 n)
 
 pub table_stops : (k : SchedulingTask) (ps : List Piece) (fit : Fit) (l : LanesData)
     → HasTable k ps fit (Some l) → (j : ℕ) → IsJob k j → stop_in l j ≤ limit
 table_stops k ps (Fits value) l (qs, kept, schedule, l', is, has) =
-    λ j job. stops_within (price k) (is_shop k.class) (length k.jobs) qs schedule l
-    (subst (HasLanes (is_shop k.class) (length k.jobs) qs) (same l l' is) has) j job.0 job.1
+    λ j job. stops_within (price k) (length k.jobs) qs schedule l
+    (subst (HasLanes false (length k.jobs) qs) (same l l' is) has) j job.0 job.1
   where
     same : (l l' : LanesData) → Some l ≡ Some l' → l' ≡ l
     same l l' e = cc
 table_stops k ps (NoSchedule fault) l is = absurd (cc)
 table_stops k ps (Misfit misfit) l (qs, kept, schedule, l', is, has) =
-    λ j job. stops_within (price k) (is_shop k.class) (length k.jobs) qs schedule l
-    (subst (HasLanes (is_shop k.class) (length k.jobs) qs) (same l l' is) has) j job.0 job.1
+    λ j job. stops_within (price k) (length k.jobs) qs schedule l
+    (subst (HasLanes false (length k.jobs) qs) (same l l' is) has) j job.0 job.1
   where
     same : (l l' : LanesData) → Some l ≡ Some l' → l' ≡ l
     same l l' e = cc
@@ -146,15 +145,15 @@ pub table_outcomes : (k : SchedulingTask) (ps : List Piece) (fit : Fit) (l : Lan
     → HasTable k ps fit (Some l)
     → map (outcome_in k l) (all_jobs k) ≡ outcomes_for k ps (Some fit)
 table_outcomes k ps (Fits value) l (qs, kept, schedule, l', is, has) =
-    sorted_outcomes (price k) (is_shop k.class) (length k.jobs) ps qs kept schedule l
-    (subst (HasLanes (is_shop k.class) (length k.jobs) qs) (same l l' is) has)
+    sorted_outcomes (price k) (length k.jobs) ps qs kept schedule l
+    (subst (HasLanes false (length k.jobs) qs) (same l l' is) has)
   where
     same : (l l' : LanesData) → Some l ≡ Some l' → l' ≡ l
     same l l' e = cc
 table_outcomes k ps (NoSchedule fault) l is = absurd (cc)
 table_outcomes k ps (Misfit misfit) l (qs, kept, schedule, l', is, has) =
-    sorted_outcomes (price k) (is_shop k.class) (length k.jobs) ps qs kept schedule l
-    (subst (HasLanes (is_shop k.class) (length k.jobs) qs) (same l l' is) has)
+    sorted_outcomes (price k) (length k.jobs) ps qs kept schedule l
+    (subst (HasLanes false (length k.jobs) qs) (same l l' is) has)
   where
     same : (l l' : LanesData) → Some l ≡ Some l' → l' ≡ l
     same l l' e = cc

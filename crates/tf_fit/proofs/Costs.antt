@@ -23,7 +23,7 @@ use Rattle.tf_schedule.proofs.Drawing.{completion-drawing}
 use Rattle.tf_schedule.proofs.OnLanes.{stop_is}
 use Rattle.tf_schedule.proofs.Times.{sound_times}
 use Rattle.tf_fit.specs.CostBy.{price_at, sum_at, cost_at}
-use Rattle.tf_fit.specs.ProblemMisfit.{IsKnownTo}
+use Rattle.tf_schedule.specs.ProblemMisfit.{IsKnownTo}
 
 -- ---- what the objective is
 

@@ -1,7 +1,1 @@
-mod Drawn
-mod Alone
-mod OnMachines
-mod Tables
-mod Judging
-mod Orders
 mod Costs

@@ -10,7 +10,7 @@ ghost use Rattle.tf_schedule.specs.Drawing.{drawing};
 ghost use Rattle.tf_schedule.specs.Lanes.{HasLanes, stop_in};
 ghost use Rattle.tf_schedule.specs.Schedule.{IsSchedule};
 ghost use Rattle.tf_fit.specs.CostBy.{price_at, counted_at, cost_at, sum_at, IsCostOrBeyond};
-ghost use Rattle.tf_fit.specs.ProblemMisfit.{IsKnownTo};
+ghost use Rattle.tf_schedule.specs.ProblemMisfit.{IsKnownTo};
 
 use std::alloc::Allocator;
 use tf_bound::task::ProblemTask;

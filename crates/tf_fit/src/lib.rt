@@ -1,9 +1,4 @@
-//! Whether a schedule fits the task of any problem, and what it costs.
+//! What a schedule of the task of any problem costs.
 #![tactic(auto)]
 
-mod condition;
 pub mod cost;
-pub mod judge;
-pub mod misfit;
-mod operations;
-mod order;

@@ -9,7 +9,7 @@ use Rattle.tf_model.specs.declared.problem.Goal.{Goal}
 use Rattle.tf_posed.specs.ProblemCost.{problem_cost, problem_cost_by}
 use Rattle.tf_schedule.proofs.Busy.{some_counted}
 use Rattle.tf_schedule.proofs.Transport.{element}
-use Rattle.tf_fit.specs.ProblemJudged.{IsJudgedBy}
+use Rattle.tf_schedule.specs.ProblemJudged.{IsJudgedBy}
 use Rattle.std.specs.List.{All}
 use Rattle.std.specs.List.Sorted.{IsPermutation}
 use Rattle.std.proofs.lemmas.List.Sorted.{All-permutation}
@@ -22,9 +22,9 @@ use Rattle.tf_schedule.specs.declared.fit.Misfit.TheVariants.{Stranger, JobTwice
 use Rattle.tf_schedule.specs.Drawing.{drawing}
 use Rattle.tf_schedule.specs.Misfit.{IsFirstNot, IsFirstTwice}
 use Rattle.tf_schedule.proofs.Permuted.{drawing_permutation}
-use Rattle.tf_fit.specs.declared.misfit.ProblemMisfit.{ProblemMisfit}
-use Rattle.tf_fit.specs.declared.misfit.ProblemMisfit.TheVariants.{Plain, OffRoute, NoOneOrder, Waits}
-use Rattle.tf_fit.specs.ProblemMisfit.{IsKnownTo, HasFirstPlain, HasFirstMisfit}
+use Rattle.tf_schedule.specs.declared.misfit.ProblemMisfit.{ProblemMisfit}
+use Rattle.tf_schedule.specs.declared.misfit.ProblemMisfit.TheVariants.{Plain, OffRoute, NoOneOrder, Waits}
+use Rattle.tf_schedule.specs.ProblemMisfit.{IsKnownTo, HasFirstPlain, HasFirstMisfit}
 use Rattle.tf_plan.specs.Plan.{FitsAsLaid}
 
 -- what fails somewhere does not hold everywhere

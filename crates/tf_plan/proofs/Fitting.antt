@@ -26,7 +26,7 @@ use Rattle.tf_schedule.proofs.Cells.{cell_exactly, piece_draws, on_some_machine}
 use Rattle.tf_schedule.proofs.Drawing.{units-drawing, all_units-drawing, width-drawing, jobs-drawing, single_place-drawing}
 use Rattle.tf_schedule.proofs.Laying.{IsApart}
 use Rattle.tf_schedule.proofs.Times.{time_le_back}
-use Rattle.tf_fit.specs.ProblemMisfit.{IsKnownTo}
+use Rattle.tf_schedule.specs.ProblemMisfit.{IsKnownTo}
 use Rattle.tf_plan.proofs.Steps.{all_room}
 use Rattle.tf_plan.specs.Plan.{FitsAsLaid}
 use Rattle.tf_plan.specs.Serial.{Follows, Precedes, IsServed, IsSerialPiece, IsSerial}

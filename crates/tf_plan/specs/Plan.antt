@@ -8,8 +8,8 @@ use Rattle.tf_posed.specs.ProblemCost.{problem_cost}
 use Rattle.tf_schedule.specs.declared.piece.Piece.{Piece}
 use Rattle.tf_schedule.specs.Drawing.{drawing}
 use Rattle.tf_schedule.specs.Schedule.{IsPiece, NoneTwice}
-use Rattle.tf_fit.specs.ProblemJudged.{FitsBy}
-use Rattle.tf_fit.specs.ProblemMisfit.{IsKnownTo}
+use Rattle.tf_schedule.specs.ProblemJudged.{FitsBy}
+use Rattle.tf_schedule.specs.ProblemMisfit.{IsKnownTo}
 
 -- the pieces fit the task and cost the value
 pub record IsPlan (k : ProblemData) (ps : List Piece) (value : ℤ) : Type 0 where

@@ -9,8 +9,8 @@ ghost use Rattle.tf_plan.specs.Plan.{FitsAsLaid, IsPlan, IsUnplanned};
 use std::alloc::{Allocator, Global};
 use tf_bound::task::ProblemTask;
 use tf_fit::cost::cost_by;
-use tf_fit::judge::{ProblemJudged, judge_problem};
 use tf_model::memory::OutOfMemory;
+use tf_schedule::judge::{ProblemJudged, judge_problem};
 use tf_schedule::piece::Piece;
 use tf_schedule::schedule::Schedule;
 

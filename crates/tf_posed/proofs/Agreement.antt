@@ -86,7 +86,7 @@ module _ (k : SchedulingTask) (sound : IsSound k) (n : Option ℕ) where
     without_wait = λ has. absurd (false≢true (sym (no_nwt k.class) ∙ has));
   }
 
-  closed : (rows : Timetable) → FitsProblem task rows → Fits k rows
+  pub closed : (rows : Timetable) → FitsProblem task rows → Fits k rows
   closed rows fits = record {
     broken = record {
       width = fits.width;

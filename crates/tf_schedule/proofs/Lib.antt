@@ -15,8 +15,14 @@ pub mod Transport
 pub mod Fitting
 pub mod Filters
 pub mod Shops
+pub mod Drawn
+pub mod Alone
+pub mod OnMachines
+pub mod Tables
 pub mod Judging
-pub mod TwoPlaces
+pub mod Passing
+pub mod ClassMisfit
+pub mod Limited
 pub mod Prices
 pub mod Costing
 pub mod Excludes

@@ -1,50 +1,90 @@
--- What is asked of each job, told in the table of its extents and in the rows of a timetable.
-use Rattle.std.specs.Prelude.{◌≡◌, ℕ, ◌<◌, ◌≤◌, Bool, true, not, IsTrue, MatchOption, Option, length}
-use Rattle.std.specs.Bool.{IsFalse}
-use Rattle.tf_model.specs.SchedulingTask.{SchedulingTask, job_data}
-use Rattle.tf_model.specs.ClassTable.{is_flow, is_shop, may_break}
+-- What is asked of each job, told in the tables of extents and in the rows of a timetable.
+use Rattle.std.specs.Prelude.{◌≡◌, ℕ, ◌<◌, ◌≤◌, Bool, true, false, not, ◌||◌, ◌&&◌, nat_lt, List, length, slice_index, Option, MatchOption, IsTrue, IsFalse}
+use Rattle.tf_model.specs.declared.problem.Problem.{Problem}
+use Rattle.tf_model.specs.ClassTable.{is_shop_env, is_flow_env}
 use Rattle.tf_model.specs.Timetable.{Timetable}
-use Rattle.tf_model.specs.Feasible.{EachJob, HasAmount, IsWhole, IsReleased, IsInFlow}
-use Rattle.tf_model.specs.declared.class.Class.{Class}
-use Rattle.tf_schedule.specs.declared.fit.Condition.{Condition}
-use Rattle.tf_schedule.specs.declared.fit.Condition.TheVariants.{Amount, Whole, Released, InFlow}
+use Rattle.tf_model.specs.Feasible.{EachJob}
+use Rattle.tf_posed.specs.ProblemData.{ProblemData, problem_job, problem_time, is_job_shop, route_of}
+use Rattle.tf_posed.specs.FitsProblem.{HasProblemTime, IsProblemUnbroken, IsProblemReleased, IsOnRoute, IsWithoutWait}
 use Rattle.tf_schedule.specs.Extent.{extent_at, IsGapless}
 use Rattle.tf_schedule.specs.Lanes.{LanesData, IsOnOne}
 use Rattle.tf_schedule.specs.Misfit.{IsSmallestNot}
+use Rattle.tf_schedule.specs.Operation.{first_operation, extent_behind}
+use Rattle.tf_schedule.specs.declared.condition.Condition.{Condition}
+use Rattle.tf_schedule.specs.declared.condition.Condition.TheVariants.{Amount, Unbroken, Released, OnRoute, WithoutWait}
 
--- whether the class asks for it
-abbrev pub is_asked : Condition → Class → Bool
-is_asked Amount class = true
-is_asked Whole class = not (may_break class)
-is_asked Released class = true
-is_asked InFlow class = is_flow class
+-- whether the problem asks for it
+abbrev pub is_asked : Condition → Problem → Bool
+is_asked Amount p = true
+is_asked Unbroken p = not p.prmp
+is_asked Released p = p.release
+is_asked OnRoute p = is_flow_env p.env || is_job_shop p.env
+is_asked WithoutWait p = p.nwt
 
--- job j works without a gap on each lane, and on one machine
-abbrev pub RunsWhole : LanesData → ℕ → Type 0
-RunsWhole l j = IsGapless (extent_at l.first j) × IsGapless (extent_at l.second j) × IsOnOne l j
+-- ---- by the extents of job j
+
+-- so many operations behind the first ones have these times
+abbrev pub HaveTimes : LanesData → ℕ → ℕ → List ℕ → Type 0
+HaveTimes l first count times =
+    (i : ℕ) → i < count → (extent_behind l first i).work ≡ slice_index times i
+
+-- and have no gap
+abbrev pub AreGapless : LanesData → ℕ → ℕ → Type 0
+AreGapless l first count = (i : ℕ) → i < count → IsGapless (extent_behind l first i)
+
+-- and of those on the machines of this route each starts after those before it are over
+abbrev pub AreInOrder : LanesData → ℕ → List ℕ → Type 0
+AreInOrder l first route = (a b : ℕ) → a < b → b < length route
+    → (extent_behind l first (slice_index route a)).stop
+    ≤ (extent_behind l first (slice_index route b)).start
 
 -- a job that has to stay on one machine might be on several
-abbrev pub IsMovable : SchedulingTask → Type 0
-IsMovable k = IsTrue (is_asked Whole k.class) × IsFalse (is_shop k.class) × (1 < k.machines)
+abbrev pub is_movable : ProblemData → Bool
+is_movable k = not k.problem.prmp && not (is_shop_env k.problem.env) && nat_lt 1 k.machines
 
 -- the table has the machines of the jobs, where they are judged by them
-abbrev pub KeepsMachines : SchedulingTask → LanesData → Type 0
-KeepsMachines k l = IsMovable k → length l.machines ≡ length k.jobs
+abbrev pub KeepsMachines : ProblemData → LanesData → Type 0
+KeepsMachines k jobs = IsTrue (is_movable k) → length jobs.machines ≡ length k.jobs
 
--- by the extents of job j
-abbrev pub IsMet : Condition → SchedulingTask → LanesData → ℕ → Type 0
-IsMet Amount k l j = ((extent_at l.first j).work ≡ (job_data k j).first)
-    × ((extent_at l.second j).work ≡ (job_data k j).second)
-IsMet Whole k l j = RunsWhole l j
-IsMet Released k l j = (job_data k j).release ≤ (extent_at l.first j).start
-IsMet InFlow k l j = (extent_at l.first j).stop ≤ (extent_at l.second j).start
+-- outside shops P holds, in shops Q
+pub record InEnv (shop : Bool) (P Q : Type 0) : Type 0 where
+  pub plain : IsFalse shop → P
+  pub in_shop : IsTrue shop → Q
 
--- by the rows
-abbrev pub Holds : Condition → SchedulingTask → Timetable → ℕ → Type 0
-Holds Amount k rows = HasAmount k rows
-Holds Whole k rows = IsWhole k rows
-Holds Released k rows = IsReleased k rows
-Holds InFlow k rows = IsInFlow rows
+abbrev pub IsMet : Condition → ProblemData → LanesData → LanesData → ℕ → Type 0
+IsMet Amount k jobs operations j =
+    InEnv (is_shop_env k.problem.env) ((extent_at jobs.first j).work ≡ problem_time k j)
+    (HaveTimes operations (first_operation k.machines j) k.machines (problem_job k j).times)
+IsMet Unbroken k jobs operations j =
+    InEnv (is_shop_env k.problem.env) (IsGapless (extent_at jobs.first j) × IsOnOne jobs j)
+    (AreGapless operations (first_operation k.machines j) k.machines)
+IsMet Released k jobs operations j = (problem_job k j).release ≤ (extent_at jobs.first j).start
+IsMet OnRoute k jobs operations j =
+    AreInOrder operations (first_operation k.machines j) (route_of k j)
+IsMet WithoutWait k jobs operations j = IsGapless (extent_at jobs.first j)
+
+-- its time, gaps and release date are right, as far as the problem asks for it
+abbrev pub is_plain : Condition → Bool
+is_plain Amount = true
+is_plain Unbroken = true
+is_plain Released = true
+is_plain OnRoute = false
+is_plain WithoutWait = false
+
+abbrev pub IsPlainMet : ProblemData → LanesData → LanesData → ℕ → Type 0
+IsPlainMet k jobs operations j = (c : Condition) → IsTrue (is_plain c)
+    → IsTrue (is_asked c k.problem) → IsMet c k jobs operations j
+
+-- ---- by the rows
+
+abbrev pub Holds : Condition → ProblemData → Timetable → ℕ → Type 0
+Holds Amount k rows = HasProblemTime k rows
+Holds Unbroken k rows = IsProblemUnbroken k rows
+Holds Released k rows = IsProblemReleased k rows
+Holds OnRoute k rows = IsOnRoute k rows
+Holds WithoutWait k rows = IsWithoutWait rows
+
+-- ---- of arcs, and of all jobs
 
 -- the first job of the arc stops before the second starts
 abbrev pub StartsAfter : LanesData → ℕ × ℕ → Type 0

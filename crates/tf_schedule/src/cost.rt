@@ -1,10 +1,10 @@
 //! What a schedule costs.
-ghost use Rattle.std.specs.Prelude.{◌≡◌, ℕ, ℤ, pos, ◌≤ℤ◌, ◌+◌, ◌*◌, ◌<◌, ◌≤◌, ◌⊎◌, min, List};
-ghost use Rattle.std.specs.Prelude.{length, slice_index, IsTrue, IsFalse};
+ghost use Rattle.std.specs.Prelude.{◌≡◌, ℕ, ℤ, pos, ◌≤ℤ◌, ◌+◌, ◌*◌, ◌<◌, ◌≤◌, ◌⊎◌, ◌↔◌, min, List};
+ghost use Rattle.std.specs.Prelude.{false, length, slice_index, IsTrue, IsFalse};
 ghost use Rattle.std.specs.List.{All};
 ghost use Rattle.tf_model.specs.Limit.{limit};
 ghost use Rattle.tf_model.specs.SchedulingTask.{IsJob, job_data};
-ghost use Rattle.tf_model.specs.ClassTable.{is_shop, is_sum};
+ghost use Rattle.tf_model.specs.ClassTable.{is_sum};
 ghost use Rattle.tf_model.specs.Cost.{cost, price, greatest_price, total_price};
 ghost use Rattle.tf_model.specs.Sound.{IsSound};
 ghost use Rattle.tf_schedule.specs.declared.piece.Piece.{Piece};
@@ -17,7 +17,7 @@ ghost use Rattle.tf_schedule.specs.Lanes.{HasLanes, stop_by, stop_in};
 ghost use Rattle.tf_schedule.specs.Stops.{total_of, total_to, with_stop, HasStops};
 
 use crate::extent::Extent;
-use crate::fit::is_known;
+use crate::judge;
 use crate::lanes::{Lanes, last_stop};
 use crate::piece::Piece;
 use crate::schedule::Schedule;
@@ -42,7 +42,7 @@ pub fn cost<A: Allocator, B: Allocator>(task: &Task<A>, schedule: &Schedule<B>) 
 pub(crate) fn cost_in<A: Allocator, B: Allocator>(task: &Task<A>, lanes: &Lanes<B>) -> i128
     requires stops { (j : ℕ) → IsJob task.now j → stop_in lanes.now j ≤ limit }
     ensures { (ps : List Piece) → IsSchedule ps → All (IsKnown task.now) ps →
-        HasLanes (is_shop task.now.class) (length task.now.jobs) ps lanes.now →
+        HasLanes false (length task.now.jobs) ps lanes.now →
         result ≡ cost task.now (drawing task.now.machines ps) }
 {
     if task.class().is_sum() {
@@ -50,6 +50,13 @@ pub(crate) fn cost_in<A: Allocator, B: Allocator>(task: &Task<A>, lanes: &Lanes<
     } else {
         greatest_by(task, lanes.first_lane(), lanes.second_lane())
     }
+}
+
+// Whether a piece names a job and a machine of the task.
+fn is_known<A: Allocator>(task: &Task<A>, piece: &Piece) -> bool
+    ensures { IsTrue result ↔ IsKnown task.now piece.now }
+{
+    judge::is_known(task, piece)
 }
 
 // ---- the greatest cost of a job

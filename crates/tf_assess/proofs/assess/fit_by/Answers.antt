@@ -3,7 +3,7 @@ use Rattle.tf_model.specs.declared.problem.Problem.{Problem}
 use Rattle.tf_schedule.specs.Drawing.{drawing}
 use Rattle.tf_posed.specs.ProblemCost.{problem_cost_by}
 use Rattle.tf_fit.specs.CostBy.{IsCostOrBeyond}
-use Rattle.tf_fit.specs.ProblemJudged.{FitsBy, IsJudgedBy}
+use Rattle.tf_schedule.specs.ProblemJudged.{FitsBy, IsJudgedBy}
 use Rattle.tf_assess.proofs.Assessing.{fits_judged}
 use Rattle.tf_assess.proofs.assess.fit_by.Goals as goal
 

@@ -1,5 +1,5 @@
 use Rattle.std.proofs.Common.{Ok, subst}
-use Rattle.tf_fit.specs.ProblemJudged.{IsJudgedBy}
+use Rattle.tf_schedule.specs.ProblemJudged.{IsJudgedBy}
 use Rattle.tf_assess.specs.declared.assessment.ProblemFit.TheVariants.{NoSchedule, Misfit}
 use Rattle.tf_assess.specs.Placed.{IsSorted}
 use Rattle.tf_assess.proofs.placed.table_on.Goals as goal

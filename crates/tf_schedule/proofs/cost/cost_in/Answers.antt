@@ -1,10 +1,10 @@
 use mir.Val.{SFits}
 use mir.Syntax.{w128}
-use Rattle.std.proofs.Common.{rules, ◌≡◌, ◌*◌, ◌<◌, ◌≤◌, ℕ, ℤ, ◌≤ℤ◌, pos, List, length, get_or, sym, ap, subst, ◌∙◌, arith, IsTrue}
+use Rattle.std.proofs.Common.{rules, ◌≡◌, ◌*◌, ◌<◌, ◌≤◌, ℕ, ℤ, ◌≤ℤ◌, pos, List, length, false, get_or, sym, ap, subst, ◌∙◌, arith, IsTrue}
 use Rattle.std.specs.Bool.{IsFalse}
 use Rattle.std.specs.List.{All}
 use Rattle.std.proofs.lemmas.Int.{ints, to_z_pos, to_z-of_z}
-use Rattle.tf_model.specs.ClassTable.{is_shop, is_sum}
+use Rattle.tf_model.specs.ClassTable.{is_sum}
 use Rattle.tf_model.specs.Cost.{cost, greatest_price, price}
 use Rattle.tf_model.specs.SchedulingTask.{SchedulingTask, IsJob, job_data}
 use Rattle.tf_model.specs.Timetable.{completion}
@@ -25,11 +25,11 @@ use Rattle.tf_schedule.proofs.cost.cost_in.Goals as goal
 
 module _ (k : SchedulingTask) (ps : List Piece) (schedule : IsSchedule ps)
     (known : All (IsKnown k) ps) (l : LanesData)
-    (has : HasLanes (is_shop k.class) (length k.jobs) ps l) where
+    (has : HasLanes false (length k.jobs) ps l) where
   -- a job completes at its last stop by the table
   ends : (j : ℕ) → 1 ≤ j → j ≤ length k.jobs → stop_in l j ≡ completion (drawing k.machines ps) j
   ends j low high =
-      stop_is (is_shop k.class) (length k.jobs) ps l has j low high
+      stop_is false (length k.jobs) ps l has j low high
       ∙ sym (completion-drawing k.machines ps j schedule.none_twice (λ i d h. (known i d h).1)
       (λ i d h. sound_times (get_or ps i d) (schedule.sound i d h)) low)
 

@@ -1,56 +1,47 @@
-use Rattle.std.proofs.Common.{rules, ◌≢◌, length, sym, ◌∙◌, arith, SFits}
+use Rattle.std.proofs.Common.{rules, false, length, subst, ◌∙◌, arith, SFits}
 use Rattle.std.specs.Int.{w128}
 use Rattle.std.proofs.lemmas.Int.{to_z-of_z}
-use Rattle.tf_model.specs.ClassTable.{is_shop}
-use Rattle.tf_schedule.specs.declared.fit.Misfit.TheVariants.{OutOfMemory}
+use Rattle.tf_posed.specs.Agreement.{posed}
+use Rattle.tf_posed.proofs.Conditions.{size}
 use Rattle.tf_schedule.specs.Lanes.{HasLanes}
+use Rattle.tf_schedule.specs.ProblemJudged.{FitsBy, IsJudgedBy}
 use Rattle.tf_schedule.proofs.Busy.{stop_within}
+use Rattle.tf_schedule.proofs.ClassMisfit.{all_known, first_of_class, fits_class}
 use Rattle.tf_schedule.proofs.OnLanes.{stop_is}
-use Rattle.tf_schedule.proofs.Permuted.{draws_drawing}
-use Rattle.tf_schedule.proofs.judge.judge.Goals.{in-Ok, in-Err}
+use Rattle.tf_schedule.proofs.judge.judge.Goals.{in-Some, in-None}
 use Rattle.tf_schedule.proofs.judge.judge.Goals as goal
 
-pub judge_pieces-requires-clause-apart : goal.judge_pieces-requires-clause-apart
-judge_pieces-requires-clause-apart g c = rw c.len.ensures.value at c.in_ok-lanes.ensures.once
-
 pub cost_in-requires : goal.cost_in-requires
-cost_in-requires g c =
-    let has : HasLanes (is_shop c.args.task.now.class) (length c.args.task.now.jobs)
-    c.args.schedule.now c.in_ok-lanes.lanes =
-    rw (c.is_shop-is_shop.ensures, c.class.ensures.class, c.len.ensures.value, c.pieces-pieces.ensures.all)
-    at c.in_ok-lanes.ensures.lanes in
-    record {
-      stops = λ j job. omega (
-        arith,
-        stop_is (is_shop c.args.task.now.class) (length c.args.task.now.jobs)
-            c.args.schedule.now c.in_ok-lanes.lanes has j job.0 job.1,
-        stop_within c.args.schedule.now c.pieces-pieces.ensures.schedule.sound j,
-      );
-    }
+cost_in-requires g c = record {
+  stops = λ j job. omega (
+    arith,
+    stop_is false (length (posed c.args.task.now).jobs) c.args.schedule.now
+        c.in_ok-misfit.field-0.jobs c.in_ok-misfit.ensures.jobs j job.0
+        (omega (arith, job.1, size c.args.task.now)),
+    stop_within c.args.schedule.now c.in_ok-misfit.ensures.schedule.sound j,
+  );
+}
 
 pub returns : goal.returns
 returns g c =
-    let has : HasLanes (is_shop c.args.task.now.class) (length c.args.task.now.jobs)
-    c.args.schedule.now c.in_ok-lanes.lanes =
-    rw (c.is_shop-is_shop.ensures, c.class.ensures.class, c.len.ensures.value, c.pieces-pieces.ensures.all)
-    at c.in_ok-lanes.ensures.lanes in
+    let k = c.args.task.now in
+    let ps = c.args.schedule.now in
+    let judged = c.in_ok-misfit.ensures in
+    let has : HasLanes false (length k.jobs) ps c.in_ok-misfit.field-0.jobs =
+    subst (λ n. HasLanes false n ps c.in_ok-misfit.field-0.jobs) (size k) judged.jobs in
     record {
-      fit = elim c.match-judge_pieces.branch [
-        | in-Ok w ↦
-            let found = rw c.pieces-pieces.ensures.all at w.in-Ok.ensures in
-            let schedule = c.pieces-pieces.ensures.schedule in
+      fit = elim c.match-misfit.branch [
+        | in-Some w ↦
+            rw (w.fit-is, w.of_class.ensures)
+            (first_of_class k c.class-class.ensures.sound ps w.in-Some.misfit
+            (subst (IsJudgedBy (posed k) ps) w.in-Some.is judged.fit))
+        | in-None w ↦
+            let by : FitsBy (posed k) ps = subst (IsJudgedBy (posed k) ps) w.in-None.is judged.fit in
             let fits : SFits w128 w.cost_in.result = search rules in
-            rw w.fit-is (record {
-              draws = draws_drawing c.args.task.now.machines c.args.schedule.now
-                  schedule.none_twice (λ i d h. (found.0 i d h).0.0) (λ i d h. (found.0 i d h).1);
-              fits = found.1;
-              costs = sym (to_z-of_z w128 w.cost_in.result fits
-                  ∙ w.cost_in.ensures c.args.schedule.now schedule found.0 has);
-            })
-        | in-Err w ↦
-            let other : w.in-Err.misfit ≢ OutOfMemory = search rules in
-            rw w.fit-is (rw c.pieces-pieces.ensures.all at w.in-Err.ensures, other)
+            rw w.fit-is (fits_class k c.class-class.ensures.sound ps by _
+            (to_z-of_z w128 w.cost_in.result fits
+            ∙ w.cost_in.ensures ps judged.schedule (all_known k ps by.known) has))
       ];
       lanes = has;
-      schedule = c.pieces-pieces.ensures.schedule;
+      schedule = judged.schedule;
     }

@@ -1,6 +1,0 @@
-use Rattle.tf_model.specs.Feasible.{EachJob}
-use Rattle.tf_fit.specs.Condition.{IsMet}
-use Rattle.tf_fit.proofs.condition.first_unmet.Given as goal
-
-abbrev pub invariant-loop-k : goal.invariant-loop-k
-invariant-loop-k g l = EachJob l.k (IsMet l.condition l.task l.jobs l.operations)

@@ -1,7 +1,0 @@
-use Rattle.std.proofs.Common.{take}
-use Rattle.std.specs.List.{All}
-use Rattle.tf_fit.specs.ProblemMisfit.{IsKnownTo}
-use Rattle.tf_fit.proofs.judge.first_stranger.Given as goal
-
-abbrev pub invariant-loop-piece : goal.invariant-loop-piece
-invariant-loop-piece g l = All (IsKnownTo l.task) (take l.piece-index l.pieces)

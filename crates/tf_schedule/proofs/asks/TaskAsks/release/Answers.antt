@@ -1,0 +1,12 @@
+use Rattle.std.proofs.Common.{sym, ap, ◌∙◌}
+use Rattle.tf_model.specs.SchedulingTask.{JobData}
+use Rattle.tf_schedule.proofs.Limited.{of_class, release_is}
+use Rattle.tf_schedule.proofs.asks.TaskAsks.release.Goals as goal
+
+pub job-requires : goal.job-requires
+job-requires g c = of_class c.args.self.now c.args.job c.requires
+
+pub returns : goal.returns
+returns g c =
+    ap (λ (row : JobData). row.release) (c.result.view_is ∙ c.job.ensures.value)
+    ∙ sym (release_is c.args.self.now c.args.job c.requires)
