@@ -58,14 +58,14 @@ pub table_outcomes : (k : ProblemData) (ps : List Piece) (fit : ProblemFit) (l :
     → map (outcome_on (counted_by k) l) (problem_jobs k) ≡ problem_outcomes k ps (Some fit)
 table_outcomes k ps (Fits value) l (qs, kept, schedule, l', is, has) =
     sorted_outcomes (counted_by k) (length k.jobs) ps qs kept schedule l
-    (subst (HasLanes false (length k.jobs) qs) (same l l' is) has)
+    (subst (HasLanes (length k.jobs) qs) (same l l' is) has)
   where
     same : (l l' : LanesData) → Some l ≡ Some l' → l' ≡ l
     same l l' e = cc
 table_outcomes k ps (NoSchedule fault) l is = absurd (cc)
 table_outcomes k ps (Misfit misfit) l (qs, kept, schedule, l', is, has) =
     sorted_outcomes (counted_by k) (length k.jobs) ps qs kept schedule l
-    (subst (HasLanes false (length k.jobs) qs) (same l l' is) has)
+    (subst (HasLanes (length k.jobs) qs) (same l l' is) has)
   where
     same : (l l' : LanesData) → Some l ≡ Some l' → l' ≡ l
     same l l' e = cc

@@ -71,7 +71,7 @@ module _ (posed : PosedData) (ps : List Piece) (rich goal : Goal) (k : ProblemDa
   -- those that fit have the cost that the table gives
   pub measure : (jobs : LanesData) → HasTable k ps (Some jobs) → (value : Option ℤ)
       → ((qs : List Piece) → IsSchedule qs → All (IsKnownTo k) qs
-      → HasLanes false (length k.jobs) qs jobs
+      → HasLanes (length k.jobs) qs jobs
       → IsCostOrBeyond value (problem_cost_by goal k (drawing k.machines qs)))
       → IsMeasure posed ps goal value
   measure jobs (qs, sorting) value costs =

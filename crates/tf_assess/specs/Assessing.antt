@@ -1,5 +1,5 @@
 -- How an answer stands to the task of a problem.
-use Rattle.std.specs.Prelude.{◌≡◌, ℕ, ℤ, ◌≤ℤ◌, ◌⊎◌, List, [], false, length, map, Option, None, Some, if◌then◌else◌}
+use Rattle.std.specs.Prelude.{◌≡◌, ℕ, ℤ, ◌≤ℤ◌, ◌⊎◌, List, [], length, map, Option, None, Some, if◌then◌else◌}
 use Rattle.std.specs.List.{All}
 use Rattle.std.specs.List.Sorted.{IsPermutation}
 use Rattle.std.specs.Ordering.{int_eq}
@@ -76,7 +76,7 @@ IsProblemJudged k ps (Misfit misfit) =
 abbrev pub HasProblemTable : ProblemData → List Piece → ProblemFit → Option LanesData → Type 0
 HasProblemTable k ps (NoSchedule fault) lanes = lanes ≡ None
 HasProblemTable k ps _ lanes = (qs : List Piece) × IsPermutation ps qs × IsSchedule qs
-    × (l : LanesData) × (lanes ≡ Some l) × HasLanes false (length k.jobs) qs l
+    × (l : LanesData) × (lanes ≡ Some l) × HasLanes (length k.jobs) qs l
 
 -- the pieces, sorted, are a schedule with this table, which fits or has this first misfit
 pub record IsSorting (k : ProblemData) (ps qs : List Piece) (jobs : LanesData)
@@ -84,7 +84,7 @@ pub record IsSorting (k : ProblemData) (ps qs : List Piece) (jobs : LanesData)
   pub kept : IsPermutation ps qs
   pub schedule : IsSchedule qs
   pub judged : IsJudgedBy k qs misfit
-  pub table : HasLanes false (length k.jobs) qs jobs
+  pub table : HasLanes (length k.jobs) qs jobs
 
 -- what the task's objective counts of a job that completes at c
 abbrev pub counted_by : ProblemData → ℕ → ℕ → ℤ

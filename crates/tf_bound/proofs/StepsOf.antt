@@ -1,6 +1,5 @@
 -- The steps of a job and its route.
-use Rattle.std.proofs.Common.{◌≡◌, Bool, true, false, ◌||◌, IsTrue, ℕ, ◌≤◌, ◌<◌, [], length, refl, sym, ap, subst, arith, All}
-use Rattle.std.specs.Bool.{IsFalse}
+use Rattle.std.proofs.Common.{◌≡◌, Bool, true, false, ◌||◌, IsTrue, ℕ, ◌≤◌, ◌<◌, length, refl, sym, ap, subst, arith, All}
 use Rattle.std.specs.List.{range_with_len}
 use Rattle.std.proofs.lemmas.Bool.{false≢true}
 use Rattle.tf_model.specs.declared.problem.Env.{Env}
@@ -23,23 +22,6 @@ steps_elsewhere Uniform h x = refl
 steps_elsewhere Unrelated h x = refl
 steps_elsewhere Flow h x = refl
 steps_elsewhere OpenShop h x = refl
-
--- flow shops and job shops are shops
-pub shop_of_route : (e : Env) → IsTrue (is_flow_env e || is_job_shop e) → IsTrue (is_shop_env e)
-shop_of_route Flow h = refl
-shop_of_route JobShop h = refl
-shop_of_route _ h = absurd (false≢true h)
-
--- elsewhere a job has no route
-pub without_route : (k : ProblemData)
-    → IsFalse (is_flow_env k.problem.env || is_job_shop k.problem.env) → (j : ℕ)
-    → route_of k j ≡ []
-without_route k none j = by k.problem.env none
-  where
-    by : (e : Env) → IsFalse (is_flow_env e || is_job_shop e) → route_by e k j ≡ []
-    by Flow h = absurd (false≢true (sym h))
-    by JobShop h = absurd (false≢true (sym h))
-    by _ h = refl
 
 module _ (k : ProblemData) (sized : IsSized k) where
   -- a route is followed step by step

@@ -1,5 +1,5 @@
 -- How the pieces of an answer stand to a task.
-use Rattle.std.specs.Prelude.{◌≡◌, ◌≢◌, ℤ, false, List, length, Option, Some, None, Result, Ok, Err}
+use Rattle.std.specs.Prelude.{◌≡◌, ◌≢◌, ℤ, List, length, Option, Some, None, Result, Ok, Err}
 use Rattle.std.specs.List.Sorted.{IsPermutation}
 use Rattle.tf_model.specs.Cost.{cost}
 use Rattle.tf_model.specs.SchedulingTask.{SchedulingTask}
@@ -25,7 +25,7 @@ IsJudged k ps (Misfit misfit) = (qs : List Piece) × IsPermutation ps qs × IsSc
 abbrev pub HasTable : SchedulingTask → List Piece → Fit → Option LanesData → Type 0
 HasTable k ps (NoSchedule fault) lanes = lanes ≡ None
 HasTable k ps _ lanes = (qs : List Piece) × IsPermutation ps qs × IsSchedule qs
-    × (l : LanesData) × (lanes ≡ Some l) × HasLanes false (length k.jobs) qs l
+    × (l : LanesData) × (lanes ≡ Some l) × HasLanes (length k.jobs) qs l
 
 -- what a schedule comes to, that is there
 abbrev pub fit_from : Result ℤ MisfitOf → Fit

@@ -95,17 +95,17 @@ map_range {X} f g a (suc n) same =
     (map_range f g (a + 1) n (λ j low high. same j (omega arith) (omega arith)))
 
 module _ (counted : ℕ → ℕ → ℤ) (n : ℕ) (qs : List Piece) (schedule : IsSchedule qs)
-    (l : LanesData) (has : HasLanes false n qs l) where
+    (l : LanesData) (has : HasLanes n qs l) where
   pub stops_within : (j : ℕ) → 1 ≤ j → j ≤ n → stop_in l j ≤ limit
   stops_within j low high =
-      omega (arith, stop_is false n qs l has j low high, stop_within qs schedule.sound j)
+      omega (arith, stop_is n qs l has j low high, stop_within qs schedule.sound j)
 
   in_table : map (outcome_on counted l) (range_with_len 1 n)
       ≡ map (outcome_by counted qs) (range_with_len 1 n)
   in_table = map_range (outcome_on counted l) (outcome_by counted qs) 1 n (λ j low high.
       let at_most : j ≤ n = omega (arith, high) in
-      let starts = start_is false n qs l has j low at_most in
-      let ends = stop_is false n qs l has j low at_most in
+      let starts = start_is n qs l has j low at_most in
+      let ends = stop_is n qs l has j low at_most in
       ap (with_stop j (start_in l j)) ends ∙ ap (λ s. with_stop j s (last_stop qs j)) starts)
     where
       with_stop : ℕ → ℕ → ℕ → JobOutcome
@@ -118,7 +118,7 @@ module _ (counted : ℕ → ℕ → ℤ) (n : ℕ) (qs : List Piece) (schedule :
 
 -- by the table of a schedule, and by the pieces that it sorts
 pub sorted_outcomes : (counted : ℕ → ℕ → ℤ) (n : ℕ) (ps qs : List Piece)
-    → IsPermutation ps qs → IsSchedule qs → (l : LanesData) → HasLanes false n qs l
+    → IsPermutation ps qs → IsSchedule qs → (l : LanesData) → HasLanes n qs l
     → map (outcome_on counted l) (range_with_len 1 n) ≡ map (outcome_by counted ps) (range_with_len 1 n)
 sorted_outcomes counted n ps qs kept schedule l has =
     in_table counted n qs schedule l has
@@ -129,14 +129,14 @@ pub table_stops : (k : SchedulingTask) (ps : List Piece) (fit : Fit) (l : LanesD
     → HasTable k ps fit (Some l) → (j : ℕ) → IsJob k j → stop_in l j ≤ limit
 table_stops k ps (Fits value) l (qs, kept, schedule, l', is, has) =
     λ j job. stops_within (price k) (length k.jobs) qs schedule l
-    (subst (HasLanes false (length k.jobs) qs) (same l l' is) has) j job.0 job.1
+    (subst (HasLanes (length k.jobs) qs) (same l l' is) has) j job.0 job.1
   where
     same : (l l' : LanesData) → Some l ≡ Some l' → l' ≡ l
     same l l' e = cc
 table_stops k ps (NoSchedule fault) l is = absurd (cc)
 table_stops k ps (Misfit misfit) l (qs, kept, schedule, l', is, has) =
     λ j job. stops_within (price k) (length k.jobs) qs schedule l
-    (subst (HasLanes false (length k.jobs) qs) (same l l' is) has) j job.0 job.1
+    (subst (HasLanes (length k.jobs) qs) (same l l' is) has) j job.0 job.1
   where
     same : (l l' : LanesData) → Some l ≡ Some l' → l' ≡ l
     same l l' e = cc
@@ -146,14 +146,14 @@ pub table_outcomes : (k : SchedulingTask) (ps : List Piece) (fit : Fit) (l : Lan
     → map (outcome_in k l) (all_jobs k) ≡ outcomes_for k ps (Some fit)
 table_outcomes k ps (Fits value) l (qs, kept, schedule, l', is, has) =
     sorted_outcomes (price k) (length k.jobs) ps qs kept schedule l
-    (subst (HasLanes false (length k.jobs) qs) (same l l' is) has)
+    (subst (HasLanes (length k.jobs) qs) (same l l' is) has)
   where
     same : (l l' : LanesData) → Some l ≡ Some l' → l' ≡ l
     same l l' e = cc
 table_outcomes k ps (NoSchedule fault) l is = absurd (cc)
 table_outcomes k ps (Misfit misfit) l (qs, kept, schedule, l', is, has) =
     sorted_outcomes (price k) (length k.jobs) ps qs kept schedule l
-    (subst (HasLanes false (length k.jobs) qs) (same l l' is) has)
+    (subst (HasLanes (length k.jobs) qs) (same l l' is) has)
   where
     same : (l l' : LanesData) → Some l ≡ Some l' → l' ≡ l
     same l l' e = cc

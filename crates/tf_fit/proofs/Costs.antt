@@ -110,14 +110,14 @@ greatest_same f g (x ∷ xs) same =
     ∙ ap (λ y. fold int_max y (map g (x ∷ xs))) (All-head (λ y. f y ≡ g y) x xs same)
 
 module _ (k : ProblemData) (ps : List Piece) (schedule : IsSchedule ps)
-    (known : All (IsKnownTo k) ps) (l : LanesData) (has : HasLanes false (length k.jobs) ps l) where
+    (known : All (IsKnownTo k) ps) (l : LanesData) (has : HasLanes (length k.jobs) ps l) where
   abbrev ended : ℕ → ℕ
   ended = completion (drawing k.machines ps)
 
   -- a job completes at its last stop
   ends : (j : ℕ) → IsProblemJob k j → stop_in l j ≡ ended j
   ends j job =
-      stop_is false (length k.jobs) ps l has j job.0 job.1
+      stop_is (length k.jobs) ps l has j job.0 job.1
       ∙ sym (completion-drawing k.machines ps j schedule.none_twice (λ i d h. (known i d h).1)
       (λ i d h. sound_times (get_or ps i d) (schedule.sound i d h)) job.0)
 

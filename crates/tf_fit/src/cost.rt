@@ -1,5 +1,5 @@
 //! What a schedule costs by any objective.
-ghost use Rattle.std.specs.Prelude.{◌≡◌, ◌*◌, ◌^◌, ◌<◌, ◌≤◌, false, length, pos, List};
+ghost use Rattle.std.specs.Prelude.{◌≡◌, ◌*◌, ◌^◌, ◌<◌, ◌≤◌, length, pos, List};
 ghost use Rattle.std.specs.List.{All};
 ghost use Rattle.tf_model.specs.Cost.{greatest};
 ghost use Rattle.tf_posed.specs.ProblemData.{IsProblemJob, problem_job, problem_jobs};
@@ -29,7 +29,7 @@ pub fn cost_by<A: Allocator, B: Allocator>(
 
     // So it is what the timetable costs that the pieces of the table draw.
     ensures drawn { (ps : List Piece) → IsSchedule ps → All (IsKnownTo task.now) ps →
-        HasLanes false (length task.now.jobs) ps jobs.now →
+        HasLanes (length task.now.jobs) ps jobs.now →
         IsCostOrBeyond result (problem_cost_by goal task.now (drawing task.now.machines ps)) }
 {
     cost_of_stops(goal, task, jobs)

@@ -14,7 +14,8 @@ use Rattle.tf_posed.specs.FitsProblem.{FitsProblem, HasProblemTime, VisitsFirst,
 use Rattle.tf_problem.proofs.Least.{Contains-problem_jobs}
 use Rattle.tf_bound.specs.Sized.{IsSized}
 use Rattle.tf_bound.specs.Steps.{steps_of}
-use Rattle.tf_bound.proofs.StepsOf.{route_steps, without_route, steps_routed}
+use Rattle.tf_bound.proofs.StepsOf.{route_steps, steps_routed}
+use Rattle.tf_schedule.proofs.Judging.{without_route}
 use Rattle.tf_schedule.specs.declared.piece.Piece.{Piece}
 use Rattle.tf_schedule.specs.Amounts.{start_of}
 use Rattle.tf_schedule.specs.Claims.{JobsOnce}

@@ -36,7 +36,6 @@ use Rattle.tf_schedule.proofs.Busy.{busy_piece, greatest_le}
 use Rattle.tf_schedule.proofs.Drawing.{cells_of-drawing, once-drawing, width-drawing, jobs-drawing, single_place-drawing}
 use Rattle.tf_schedule.proofs.Extents.{work_exact}
 use Rattle.tf_schedule.proofs.OnLanes.{one_to, one_from}
-use Rattle.tf_schedule.proofs.Fitting.{never_both}
 use Rattle.tf_schedule.proofs.Transport.{smallest_by, all_by, first_by}
 use Rattle.tf_schedule.specs.declared.condition.Condition.{Condition}
 use Rattle.tf_schedule.specs.declared.condition.Condition.TheVariants.{Amount, Unbroken, Released, OnRoute, WithoutWait}
@@ -80,7 +79,7 @@ shop_of_route JobShop h = refl
 shop_of_route _ h = absurd (false≢true h)
 
 -- elsewhere a job has no route
-without_route : (k : ProblemData)
+pub without_route : (k : ProblemData)
     → IsFalse (is_flow_env k.problem.env || is_job_shop k.problem.env) → (j : ℕ)
     → route_of k j ≡ []
 without_route k none j = by k.problem.env none
@@ -131,12 +130,12 @@ module _ (k : ProblemData) (limited : IsLimited k) (ps : List Piece) (schedule :
       subst (AllPairs (VisitsFirst rows j)) (sym (without_route k none j))
       (λ a b d lt in'. absurd (omega arith))
 
-  module _ (jobs operations : LanesData) (has : HasLanes false (length k.jobs) ps jobs)
+  module _ (jobs operations : LanesData) (has : HasLanes (length k.jobs) ps jobs)
       (keeps : KeepsMachines k jobs) (has_each : IsTrue (is_shop_env k.problem.env)
       → HasOperations (length k.jobs) k.machines ps operations) where
     module _ (j : ℕ) (low : 1 ≤ j) (high : j ≤ length k.jobs) where
-      only : extent_at jobs.first j ≡ extent_of ps j
-      only = has.first j low high
+      only : extent_at jobs.extents j ≡ extent_of ps j
+      only = has.extents j low high
 
       exact : min (work ps j) most_work ≡ work ps j
       exact = work_exact ps j schedule.sound once
@@ -145,15 +144,15 @@ module _ (k : ProblemData) (limited : IsLimited k) (ps : List Piece) (schedule :
       exact_on i = work_exact (pieces_on i ps) j (sound_on n m ps schedule within i)
           (once_on n m ps schedule within once i)
 
-      work_is : (extent_at jobs.first j).work ≡ work ps j
+      work_is : (extent_at jobs.extents j).work ≡ work ps j
       work_is = ap (λ (e : Extent). e.work) only ∙ exact
 
-      gap_is : IsGapless (extent_at jobs.first j)
+      gap_is : IsGapless (extent_at jobs.extents j)
           → greatest_by stop_of ps j - least_by start_of ps j ≡ work ps j
       gap_is gapless = subst IsGapless only gapless ∙ exact
 
       is_gap : greatest_by stop_of ps j - least_by start_of ps j ≡ work ps j
-          → IsGapless (extent_at jobs.first j)
+          → IsGapless (extent_at jobs.extents j)
       is_gap whole = subst IsGapless (sym only) (whole ∙ sym exact)
 
       module _ (shop : IsTrue (is_shop_env k.problem.env)) where
@@ -210,7 +209,7 @@ module _ (k : ProblemData) (limited : IsLimited k) (ps : List Piece) (schedule :
       unbroken_to asked true shop met = record {
         no_gap = no_gap_on_to n m ps schedule within once j low
             (λ i on. gap_on_is shop i on (met.in_shop shop i on));
-        one_machine = λ plain. absurd (never_both (is_shop_env k.problem.env) shop plain);
+        one_machine = λ plain. absurd (false≢true (sym plain ∙ shop));
       }
       unbroken_to asked false plain met =
           let whole = met.plain plain in
@@ -321,12 +320,12 @@ module _ (k : ProblemData) (limited : IsLimited k) (ps : List Piece) (schedule :
     after_to (a, b) arc after =
         kept_to n m ps schedule within a b arc.0.0 arc.1.0
         (subst (λ (e : Extent). greatest_by stop_of ps a ≤ e.start) (only b arc.1.0 arc.1.1)
-        (subst (λ (e : Extent). e.stop ≤ (extent_at jobs.first b).start) (only a arc.0.0 arc.0.1)
+        (subst (λ (e : Extent). e.stop ≤ (extent_at jobs.extents b).start) (only a arc.0.0 arc.0.1)
         after))
 
     after_from : (arc : ℕ × ℕ) → IsArc arc → IsKept rows arc → StartsAfter jobs arc
     after_from (a, b) arc kept =
-        subst (λ (e : Extent). e.stop ≤ (extent_at jobs.first b).start) (sym (only a arc.0.0 arc.0.1))
+        subst (λ (e : Extent). e.stop ≤ (extent_at jobs.extents b).start) (sym (only a arc.0.0 arc.0.1))
         (subst (λ (e : Extent). greatest_by stop_of ps a ≤ e.start) (sym (only b arc.1.0 arc.1.1))
         (kept_from n m ps schedule within a b kept))
 
@@ -457,7 +456,7 @@ is_prec p q some same = sym (ap (λ (x : Problem). x.prec) same) ∙ not_false p
     not_false false e = cc
 
 pub tabled : (k : ProblemData) (ps : List Piece) (jobs operations : LanesData) → IsSchedule ps
-    → All (IsKnownTo k) ps → JobsOnce ps → HasLanes false (length k.jobs) ps jobs
+    → All (IsKnownTo k) ps → JobsOnce ps → HasLanes (length k.jobs) ps jobs
     → KeepsMachines k jobs → (IsTrue (is_shop_env k.problem.env) → HasOperations (length k.jobs) k.machines ps operations)
     → AreTabled k ps jobs operations
 tabled k ps jobs operations schedule known once has keeps has_each = record {

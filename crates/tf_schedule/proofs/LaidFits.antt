@@ -1,7 +1,8 @@
 -- The timetable of operations that are laid one after another: what it fits, and what it costs.
-use Rattle.std.proofs.Common.{◌≡◌, ◌≢◌, ℕ, zero, suc, ◌+◌, ◌<◌, ◌≤◌, pos, cond, ◌&&◌, eqb, List, [], ◌∷◌, length, get_or, ap, ◌∙◌, arith, IsTrue, IsFalse}
+use Rattle.std.proofs.Common.{◌≡◌, ◌≢◌, ℕ, zero, suc, ◌+◌, ◌<◌, ◌≤◌, pos, cond, ◌&&◌, eqb, List, [], ◌∷◌, length, get_or, ap, sym, ◌∙◌, arith, IsTrue, IsFalse}
 use Rattle.std.specs.List.{All, AllPairs, sum_by}
 use Rattle.std.specs.List.Sorted.{IsPermutation}
+use Rattle.std.proofs.lemmas.Bool.{false≢true}
 use Rattle.std.proofs.lemmas.Int.{ints}
 use Rattle.std.proofs.lemmas.List.Sorted.{All-permutation}
 use Rattle.tf_model.specs.Cost.{Makespan, objective_of, cost}
@@ -17,7 +18,6 @@ use Rattle.tf_schedule.specs.Schedule.{IsPiece, NoneTwice, ComesBefore, IsSchedu
 use Rattle.tf_schedule.specs.Drawing.{drawing, greatest_stop, stop_of, IsOnMachine}
 use Rattle.tf_schedule.proofs.Drawing.{width-drawing, jobs-drawing, single_place-drawing, units-drawing, all_units-drawing, makespan-drawing}
 use Rattle.tf_model.proofs.Classes.{no_flow, shop_unreleased, shop_unordered}
-use Rattle.tf_schedule.proofs.Fitting.{never_both}
 use Rattle.tf_schedule.proofs.Scan.{claims_permutation}
 use Rattle.tf_schedule.proofs.Times.{sound_times, time_le_back}
 use Rattle.tf_schedule.specs.declared.semi_active.Operation.{Operation}
@@ -105,7 +105,7 @@ module _ (S : ℕ → ℕ → ℕ → ℕ → Type 0) (task : SchedulingTask) (o
           (λ k d h. (is_laid.placed k d h).job.1);
       single_place = λ j low high. laid_once j low;
       amount = λ j low high. record {
-        in_all = λ plain. absurd (never_both (is_shop task.class) shop plain);
+        in_all = λ plain. absurd (false≢true (sym plain ∙ shop));
         on_each = λ _ i lt. laid_units j i (low, high) (omega (arith, sound.shop shop))
             ∙ times j i (low, high) lt;
       };
@@ -117,7 +117,7 @@ module _ (S : ℕ → ℕ → ℕ → ℕ → Type 0) (task : SchedulingTask) (o
     };
     unbroken = λ _ j low high. record {
       no_gap = λ i s t u. apart_no_gap S ps is_laid.apart listed.never task.machines j i s t u low;
-      one_machine = λ plain. absurd (never_both (is_shop task.class) shop plain);
+      one_machine = λ plain. absurd (false≢true (sym plain ∙ shop));
     };
   }
 
@@ -137,7 +137,7 @@ module _ (S : ℕ → ℕ → ℕ → ℕ → Type 0) (task : SchedulingTask) (o
       single_place = λ j low high. laid_once j low;
       amount = λ j low high. record {
         in_all = λ _. laid_all_units j (low, high) ∙ times j (low, high);
-        on_each = λ shop. absurd (never_both (is_shop task.class) shop plain);
+        on_each = λ shop. absurd (false≢true (sym plain ∙ shop));
       };
       released = λ j low high t i here. omega (arith, sound.unreleased unreleased j (low, high));
       in_order = λ k d h s t a b.
@@ -145,7 +145,7 @@ module _ (S : ℕ → ℕ → ℕ → ℕ → Type 0) (task : SchedulingTask) (o
           let arc = arcs k d h in
           apart_in_order S ps is_laid.apart task.machines (get_or task.arcs k d).0
           (get_or task.arcs k d).1 s t a b (single (omega arith)) jobs.0.0 jobs.1.0 arc.0 arc.1;
-      in_flow = λ flow. absurd (never_both (is_flow task.class) flow (no_flow task.class plain));
+      in_flow = λ flow. absurd (false≢true (sym (no_flow task.class plain) ∙ flow));
     };
     unbroken = λ _ j low high. record {
       no_gap = λ i s t u. apart_no_gap S ps is_laid.apart listed.never task.machines j i s t u low;

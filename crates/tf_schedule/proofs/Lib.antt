@@ -12,9 +12,7 @@ pub mod Busy
 pub mod Extents
 pub mod OnLanes
 pub mod Transport
-pub mod Fitting
 pub mod Filters
-pub mod Shops
 pub mod Drawn
 pub mod Alone
 pub mod OnMachines

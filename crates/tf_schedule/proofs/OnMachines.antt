@@ -1,19 +1,33 @@
 -- What the pieces of a job have on each machine of a shop, and what the timetable that they draw has.
-use Rattle.std.proofs.Common.{◌≡◌, ℕ, ◌+◌, ◌-◌, ◌<◌, ◌≤◌, List, ◌∙◌}
+use Rattle.std.proofs.Common.{◌≡◌, ℕ, ◌+◌, ◌-◌, ◌<◌, ◌≤◌, Bool, true, false, cond, ◌&&◌, eqb, List, refl, sym, ◌∙◌}
 use Rattle.std.specs.List.{All}
 use Rattle.tf_model.specs.Timetable.{cell, units}
 use Rattle.tf_posed.specs.FitsProblem.{VisitsFirst}
 use Rattle.tf_schedule.specs.declared.piece.Piece.{Piece}
 use Rattle.tf_schedule.specs.Schedule.{IsSchedule}
 use Rattle.tf_schedule.specs.Claims.{JobsOnce}
-use Rattle.tf_schedule.specs.Drawing.{drawing, stop_of}
-use Rattle.tf_schedule.specs.Amounts.{work, pieces_on, greatest_by, least_by, start_of}
+use Rattle.tf_schedule.specs.Drawing.{drawing, duration, stop_of}
+use Rattle.tf_schedule.specs.Amounts.{work, work_on, pieces_on, greatest_by, least_by, start_of}
+use Rattle.tf_schedule.proofs.Counting.{sum_by-same}
+use Rattle.tf_schedule.proofs.Filters.{sum_by-filter}
 use Rattle.tf_schedule.proofs.Drawing.{units-drawing}
 use Rattle.tf_schedule.proofs.Cells.{on_some_machine}
-use Rattle.tf_schedule.proofs.Shops.{work-pieces_on}
 use Rattle.tf_schedule.proofs.Busy.{no_gap_from_extent, extent_from_no_gap, order_from_stop, stop_from_order}
 use Rattle.tf_schedule.specs.Operation.{IsWithin}
 use Rattle.tf_schedule.proofs.Drawn.{sound_on, once_on, cell_busy_on, busy_cell_on}
+
+on_test : (a b : Bool) (n : ℕ) → cond (b && a) n 0 ≡ cond a (cond b n 0) 0
+on_test true true n = refl
+on_test true false n = refl
+on_test false true n = refl
+on_test false false n = refl
+
+pub work-pieces_on : (ps : List Piece) (j i : ℕ) → work_on ps j i ≡ work (pieces_on i ps) j
+work-pieces_on ps j i =
+    sum_by-same (λ p. cond (eqb p.job j && eqb p.machine i) (duration p) 0)
+    (λ p. cond (eqb p.machine i) (cond (eqb p.job j) (duration p) 0) 0)
+    (λ p. on_test (eqb p.machine i) (eqb p.job j) (duration p)) ps
+    ∙ sym (sum_by-filter (λ p. eqb p.machine i) (λ p. cond (eqb p.job j) (duration p) 0) ps)
 
 module _ (n m : ℕ) (ps : List Piece) (schedule : IsSchedule ps) (known : All (IsWithin n m) ps)
     (once : JobsOnce ps) (j : ℕ) (low : 1 ≤ j) where

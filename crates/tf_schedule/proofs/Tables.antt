@@ -153,11 +153,11 @@ named_sound m ps sound a d h =
     subst IsPiece (sym (get_or-map (operation_piece m) ps a d d in')) (sound a d in')
 
 pub has_operations : (n m : ℕ) (ps : List Piece) (l : LanesData) → All (IsWithin n m) ps
-    → HasLanes false (n * m) (map (operation_piece m) ps) l → HasOperations n m ps l
+    → HasLanes (n * m) (map (operation_piece m) ps) l → HasOperations n m ps l
 has_operations n m ps l within has j i low high on =
     let number : ℕ = first_operation m j + i + 1 in
     let is : extent_behind l (first_operation m j) i ≡ extent_of (named m ps) number =
-    has.first number (omega arith) (omega (arith, first_within m n j low high, on)) in
+    has.extents number (omega arith) (omega (arith, first_within m n j low high, on)) in
     record {
       work = ap (λ e. e.work) is ∙ ap (λ w. min w most_work) (named_work n m j i low on ps within);
       start = ap (λ e. e.start) is ∙ named_least n m j i low on ps within;

@@ -53,15 +53,15 @@ pub record InEnv (shop : Bool) (P Q : Type 0) : Type 0 where
 
 abbrev pub IsMet : Condition → ProblemData → LanesData → LanesData → ℕ → Type 0
 IsMet Amount k jobs operations j =
-    InEnv (is_shop_env k.problem.env) ((extent_at jobs.first j).work ≡ problem_time k j)
+    InEnv (is_shop_env k.problem.env) ((extent_at jobs.extents j).work ≡ problem_time k j)
     (HaveTimes operations (first_operation k.machines j) k.machines (problem_job k j).times)
 IsMet Unbroken k jobs operations j =
-    InEnv (is_shop_env k.problem.env) (IsGapless (extent_at jobs.first j) × IsOnOne jobs j)
+    InEnv (is_shop_env k.problem.env) (IsGapless (extent_at jobs.extents j) × IsOnOne jobs j)
     (AreGapless operations (first_operation k.machines j) k.machines)
-IsMet Released k jobs operations j = (problem_job k j).release ≤ (extent_at jobs.first j).start
+IsMet Released k jobs operations j = (problem_job k j).release ≤ (extent_at jobs.extents j).start
 IsMet OnRoute k jobs operations j =
     AreInOrder operations (first_operation k.machines j) (route_of k j)
-IsMet WithoutWait k jobs operations j = IsGapless (extent_at jobs.first j)
+IsMet WithoutWait k jobs operations j = IsGapless (extent_at jobs.extents j)
 
 -- its time, gaps and release date are right, as far as the problem asks for it
 abbrev pub is_plain : Condition → Bool
@@ -88,7 +88,7 @@ Holds WithoutWait k rows = IsWithoutWait rows
 
 -- the first job of the arc stops before the second starts
 abbrev pub StartsAfter : LanesData → ℕ × ℕ → Type 0
-StartsAfter l arc = (extent_at l.first arc.0).stop ≤ (extent_at l.first arc.1).start
+StartsAfter l arc = (extent_at l.extents arc.0).stop ≤ (extent_at l.extents arc.1).start
 
 -- where the class asks for P, it holds of each of the jobs 1 to n, or this is the smallest job of
 -- which it does not

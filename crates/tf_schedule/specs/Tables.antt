@@ -1,5 +1,5 @@
 -- The tables of a schedule: by jobs, and in a shop by operations.
-use Rattle.std.specs.Prelude.{◌≡◌, ℕ, ◌+◌, ◌<◌, ◌≤◌, min, false, List, length, IsTrue}
+use Rattle.std.specs.Prelude.{◌≡◌, ℕ, ◌+◌, ◌<◌, ◌≤◌, min, List, length, IsTrue}
 use Rattle.std.specs.List.{All}
 use Rattle.tf_model.specs.ClassTable.{is_shop_env}
 use Rattle.tf_posed.specs.ProblemData.{ProblemData}
@@ -31,7 +31,7 @@ pub record AreTabled (k : ProblemData) (ps : List Piece) (jobs operations : Lane
   pub schedule : IsSchedule ps
   pub known : All (IsKnownTo k) ps
   pub once : JobsOnce ps
-  pub of_jobs : HasLanes false (length k.jobs) ps jobs
+  pub of_jobs : HasLanes (length k.jobs) ps jobs
   pub machines : KeepsMachines k jobs
   pub of_operations : IsTrue (is_shop_env k.problem.env)
       → HasOperations (length k.jobs) k.machines ps operations

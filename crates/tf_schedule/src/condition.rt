@@ -41,7 +41,7 @@ fn have_times<T: Asks, B: Allocator>(task: &T, operations: &Lanes<B>, job: JobId
     let machines = task.machines();
     let first = first_operation(machines, job);
     for i in 0..machines as usize {
-        if operations.first(JobId::at(first + i)).work != task.time_on(job, i) {
+        if operations.extent(JobId::at(first + i)).work != task.time_on(job, i) {
             return false;
         }
     }
@@ -57,7 +57,7 @@ fn are_gapless<T: Asks, B: Allocator>(task: &T, operations: &Lanes<B>, job: JobI
     let machines = task.machines();
     let first = first_operation(machines, job);
     for i in 0..machines as usize {
-        if !operations.first(JobId::at(first + i)).is_gapless() {
+        if !operations.extent(JobId::at(first + i)).is_gapless() {
             return false;
         }
     }
@@ -73,7 +73,7 @@ fn are_in_order<T: Asks, B: Allocator>(task: &T, operations: &Lanes<B>, job: Job
     let first = first_operation(task.machines(), job);
     let mut latest: u64 = 0;
     for i in 0..task.visits(job) {
-        let extent = operations.first(JobId::at(first + task.visited(job, i)));
+        let extent = operations.extent(JobId::at(first + task.visited(job, i)));
         if extent.start < latest {
             return false;
         }
@@ -116,7 +116,7 @@ impl Condition {
         requires shop { is_shop ≡ is_shop_env (T.posed task.now).problem.env }
         ensures { IsTrue result ↔ IsMet self (T.posed task.now) jobs.now operations.now job }
     {
-        let extent = jobs.first(job);
+        let extent = jobs.extent(job);
         match self {
             Condition::Amount => {
                 if is_shop {

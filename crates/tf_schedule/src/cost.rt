@@ -1,6 +1,6 @@
 //! What a schedule costs.
 ghost use Rattle.std.specs.Prelude.{◌≡◌, ℕ, ℤ, pos, ◌≤ℤ◌, ◌+◌, ◌*◌, ◌<◌, ◌≤◌, ◌⊎◌, ◌↔◌, min, List};
-ghost use Rattle.std.specs.Prelude.{false, length, slice_index, IsTrue, IsFalse};
+ghost use Rattle.std.specs.Prelude.{length, slice_index, IsTrue, IsFalse};
 ghost use Rattle.std.specs.List.{All};
 ghost use Rattle.tf_model.specs.Limit.{limit};
 ghost use Rattle.tf_model.specs.SchedulingTask.{IsJob, job_data};
@@ -16,9 +16,9 @@ ghost use Rattle.tf_schedule.specs.Cost.{known_pieces, schedule_cost};
 ghost use Rattle.tf_schedule.specs.Lanes.{HasLanes, stop_by, stop_in};
 ghost use Rattle.tf_schedule.specs.Stops.{total_of, total_to, with_stop, HasStops};
 
-use crate::extent::Extent;
+use crate::extent::{Extent, extent_at};
 use crate::judge;
-use crate::lanes::{Lanes, last_stop};
+use crate::lanes::Lanes;
 use crate::piece::Piece;
 use crate::schedule::Schedule;
 use std::alloc::Allocator;
@@ -42,13 +42,13 @@ pub fn cost<A: Allocator, B: Allocator>(task: &Task<A>, schedule: &Schedule<B>) 
 pub(crate) fn cost_in<A: Allocator, B: Allocator>(task: &Task<A>, lanes: &Lanes<B>) -> i128
     requires stops { (j : ℕ) → IsJob task.now j → stop_in lanes.now j ≤ limit }
     ensures { (ps : List Piece) → IsSchedule ps → All (IsKnown task.now) ps →
-        HasLanes false (length task.now.jobs) ps lanes.now →
+        HasLanes (length task.now.jobs) ps lanes.now →
         result ≡ cost task.now (drawing task.now.machines ps) }
 {
     if task.class().is_sum() {
-        total_by(task, lanes.first_lane(), lanes.second_lane()) as i128
+        total_by(task, lanes.extents()) as i128
     } else {
-        greatest_by(task, lanes.first_lane(), lanes.second_lane())
+        greatest_by(task, lanes.extents())
     }
 }
 
@@ -70,7 +70,7 @@ fn greatest_cost<A: Allocator>(task: &Task<A>, pieces: &[Piece]) -> i128
         ≡ greatest_price task.now (drawing task.now.machines (known_pieces task.now pieces.now)) }
 {
     // A job without a piece completes at time 0.
-    let mut value: i128 = greatest_by(task, &[], &[]);
+    let mut value: i128 = greatest_by(task, &[]);
     for piece in pieces {
         value = raised(task, value, piece);
     }
@@ -94,30 +94,30 @@ fn raised<A: Allocator>(task: &Task<A>, value: i128, piece: &Piece) -> i128
     value.max(price(task, piece.job, piece.stop))
 }
 
-// The greatest cost of a job if each completes at its last stop by the extents of two lanes.
-fn greatest_by<A: Allocator>(task: &Task<A>, first: &[Extent], second: &[Extent]) -> i128
+// The greatest cost of a job if each completes at its last stop by these extents.
+fn greatest_by<A: Allocator>(task: &Task<A>, extents: &[Extent]) -> i128
     requires class { IsFalse (is_sum task.now.class) }
-    requires stops { (j : ℕ) → IsJob task.now j → stop_by first.now second.now j ≤ limit }
+    requires stops { (j : ℕ) → IsJob task.now j → stop_by extents.now j ≤ limit }
     ensures all { (j : ℕ) → IsJob task.now j →
-        price task.now j (stop_by first.now second.now j) ≤ℤ result }
+        price task.now j (stop_by extents.now j) ≤ℤ result }
     ensures reached { (j : ℕ) × IsJob task.now j
-        × (result ≡ price task.now j (stop_by first.now second.now j)) }
+        × (result ≡ price task.now j (stop_by extents.now j)) }
 {
     let jobs = task.len();
-    let mut value: i128 = price_by(task, first, second, JobId::at(0));
+    let mut value: i128 = price_by(task, extents, JobId::at(0));
     for k in 1..jobs {
-        value = value.max(price_by(task, first, second, JobId::at(k)));
+        value = value.max(price_by(task, extents, JobId::at(k)));
     }
     value
 }
 
-fn price_by<A: Allocator>(task: &Task<A>, first: &[Extent], second: &[Extent], job: JobId) -> i128
+fn price_by<A: Allocator>(task: &Task<A>, extents: &[Extent], job: JobId) -> i128
     requires class { IsFalse (is_sum task.now.class) }
     requires job { IsJob task.now job }
-    requires stop { stop_by first.now second.now job ≤ limit }
-    ensures { result ≡ price task.now job (stop_by first.now second.now job) }
+    requires stop { stop_by extents.now job ≤ limit }
+    ensures { result ≡ price task.now job (stop_by extents.now job) }
 {
-    price(task, job, last_stop(first, second, job) as i64)
+    price(task, job, extent_at(extents, job).stop as i64)
 }
 
 /// What a job that is there costs if it completes at time `c`, where the objective is a greatest
@@ -231,17 +231,17 @@ fn weighted<A: Allocator>(task: &Task<A>, job: JobId, c: u64) -> u128
     u128::from(task.weight(job)) * u128::from(c)
 }
 
-// The sum where each job completes at its last stop by the extents of two lanes.
-fn total_by<A: Allocator>(task: &Task<A>, first: &[Extent], second: &[Extent]) -> u128
+// The sum where each job completes at its last stop by these extents.
+fn total_by<A: Allocator>(task: &Task<A>, extents: &[Extent]) -> u128
     requires task { IsSound task.now }
     requires class { IsTrue (is_sum task.now.class) }
-    requires stops { (j : ℕ) → IsJob task.now j → stop_by first.now second.now j ≤ limit }
-    ensures { result ≡ total_of task.now (stop_by first.now second.now) (length task.now.jobs) }
+    requires stops { (j : ℕ) → IsJob task.now j → stop_by extents.now j ≤ limit }
+    ensures { result ≡ total_of task.now (stop_by extents.now) (length task.now.jobs) }
 {
     let mut sum: u128 = 0;
     for k in 0..task.len() {
         let job = JobId::at(k);
-        sum += weighted(task, job, last_stop(first, second, job));
+        sum += weighted(task, job, extent_at(extents, job).stop);
     }
     sum
 }

@@ -90,7 +90,7 @@ pub fn fits<A: Allocator + Copy, B: Allocator, C: Allocator>(
 }
 
 /// The first arc whose first job is not over before the second starts.
-pub fn first_out_of_order<A: Allocator>(
+pub(crate) fn first_out_of_order<A: Allocator>(
     arcs: &[(JobId, JobId)],
     lanes: &Lanes<A>,
 ) -> Option<(JobId, JobId)>
@@ -98,7 +98,7 @@ pub fn first_out_of_order<A: Allocator>(
         (IsFirstNot (StartsAfter lanes.now) arcs.now) }
 {
     for arc in arcs {
-        if lanes.first(arc.1).start < lanes.first(arc.0).stop {
+        if lanes.extent(arc.1).start < lanes.extent(arc.0).stop {
             return Some(*arc);
         }
     }
@@ -107,7 +107,7 @@ pub fn first_out_of_order<A: Allocator>(
 
 /// A piece at whose start its job runs in two places: the smallest such job, and its first such
 /// time. There is none where the pieces of each job are apart.
-pub fn first_in_two_places<A: Allocator>(
+pub(crate) fn first_in_two_places<A: Allocator>(
     alloc: A,
     pieces: &[Piece],
     are_apart: bool,

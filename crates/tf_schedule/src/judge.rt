@@ -1,5 +1,5 @@
 //! How a schedule stands to a task.
-ghost use Rattle.std.specs.Prelude.{◌≡◌, ◌↔◌, ◌<◌, ◌≤◌, false, length, List, IfOk, IsTrue};
+ghost use Rattle.std.specs.Prelude.{◌≡◌, ◌↔◌, ◌<◌, ◌≤◌, length, List, IfOk, IsTrue};
 ghost use Rattle.std.specs.Prelude.{MatchOption};
 ghost use Rattle.std.specs.List.{All};
 ghost use Rattle.tf_posed.specs.FitsProblem.{FitsProblem};
@@ -52,7 +52,7 @@ pub fn judge<A: Allocator + Copy, B: Allocator, C: Allocator>(
 ) -> Result<Judged<A>, OutOfMemory>
     ensures fit { IfOk result (λ judged. HasFit task.now schedule.now judged.fit) }
     ensures lanes { IfOk result (λ judged.
-        HasLanes false (length task.now.jobs) schedule.now judged.lanes) }
+        HasLanes (length task.now.jobs) schedule.now judged.lanes) }
     ensures schedule { IsSchedule schedule.now }
 {
     // The contract of `class` says what a task keeps.
@@ -96,11 +96,11 @@ pub fn judge_problem<A: Allocator + Copy, T: Asks, C: Allocator>(
     ensures fit { IfOk result
         (λ judged. IsJudgedBy (T.posed task.now) schedule.now judged.misfit) }
     ensures jobs { IfOk result
-        (λ judged. HasLanes false (length (T.posed task.now).jobs) schedule.now judged.jobs) }
+        (λ judged. HasLanes (length (T.posed task.now).jobs) schedule.now judged.jobs) }
     ensures schedule { IsSchedule schedule.now }
 {
     let pieces = schedule.pieces();
-    let (jobs, are_apart) = lanes_of(alloc, task.len(), false, is_movable(task), pieces)?;
+    let (jobs, are_apart) = lanes_of(alloc, task.len(), is_movable(task), pieces)?;
     let misfit = first_misfit(alloc, task, pieces, &jobs, are_apart)?;
     Ok(ProblemJudged { misfit, jobs })
 }
@@ -123,7 +123,7 @@ fn first_misfit<A: Allocator + Copy, T: Asks>(
     are_apart: bool,
 ) -> Result<Option<ProblemMisfit>, AllocError>
     requires schedule { IsSchedule pieces.now }
-    requires jobs { HasLanes false (length (T.posed task.now).jobs) pieces.now jobs.now }
+    requires jobs { HasLanes (length (T.posed task.now).jobs) pieces.now jobs.now }
     requires machines { KeepsMachines (T.posed task.now) jobs.now }
     requires apart { All (λ p. (0 < p.job) × (p.job ≤ length (T.posed task.now).jobs)) pieces.now →
         IsTrue are_apart → JobsOnce pieces.now }

@@ -69,7 +69,7 @@ fn shop_operations<A: Allocator + Copy>(
     ensures { IfOk result (HasOperations jobs machines pieces.now) }
 {
     let operations = operation_pieces(alloc, machines, pieces)?;
-    let (lanes, _) = lanes_of(alloc, jobs * machines as usize, false, false, &operations)?;
+    let (lanes, _) = lanes_of(alloc, jobs * machines as usize, false, &operations)?;
     Ok(lanes)
 }
 
@@ -87,6 +87,6 @@ pub(crate) fn operations_of<A: Allocator + Copy, T: Asks>(
     if task.problem().env.is_shop() {
         return shop_operations(alloc, task.len(), task.machines(), pieces);
     }
-    let (lanes, _) = lanes_of(alloc, 0, false, false, &[])?;
+    let (lanes, _) = lanes_of(alloc, 0, false, &[])?;
     Ok(lanes)
 }

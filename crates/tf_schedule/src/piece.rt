@@ -1,5 +1,5 @@
 //! Pieces of work.
-ghost use Rattle.std.specs.Prelude.{◌≡◌, ◌↔◌, IsTrue, pos, ◌≤ℤ◌, ◌==◌, ◌<◌, ◌≤◌};
+ghost use Rattle.std.specs.Prelude.{◌≡◌, ◌↔◌, IsTrue, pos, ◌≤ℤ◌, ◌<◌, ◌≤◌};
 ghost use Rattle.tf_model.specs.Limit.{limit};
 ghost use Rattle.tf_schedule.specs.Piece.{IsInRange, covers, as_time, piece_of};
 ghost use Rattle.tf_schedule.specs.Claims.{has_started};
@@ -54,13 +54,6 @@ impl Piece {
         ensures { result ≡ has_started machine t self.now }
     {
         self.machine < machine || (self.machine == machine && self.start <= t)
-    }
-
-    // Whether the piece is on machine 1.
-    pub(crate) fn is_on_first(&self) -> bool
-        ensures { result ≡ (self.now.machine == 1) }
-    {
-        self.machine.get() == 1
     }
 
     // Whether the piece claims this cell.

@@ -1,6 +1,6 @@
 use mir.Val.{SFits}
 use mir.Syntax.{w128}
-use Rattle.std.proofs.Common.{rules, ◌≡◌, ◌*◌, ◌<◌, ◌≤◌, ℕ, ℤ, ◌≤ℤ◌, pos, List, length, false, get_or, sym, ap, subst, ◌∙◌, arith, IsTrue}
+use Rattle.std.proofs.Common.{rules, ◌≡◌, ◌*◌, ◌<◌, ◌≤◌, ℕ, ℤ, ◌≤ℤ◌, pos, List, length, get_or, sym, ap, subst, ◌∙◌, arith, IsTrue}
 use Rattle.std.specs.Bool.{IsFalse}
 use Rattle.std.specs.List.{All}
 use Rattle.std.proofs.lemmas.Int.{ints, to_z_pos, to_z-of_z}
@@ -25,11 +25,11 @@ use Rattle.tf_schedule.proofs.cost.cost_in.Goals as goal
 
 module _ (k : SchedulingTask) (ps : List Piece) (schedule : IsSchedule ps)
     (known : All (IsKnown k) ps) (l : LanesData)
-    (has : HasLanes false (length k.jobs) ps l) where
+    (has : HasLanes (length k.jobs) ps l) where
   -- a job completes at its last stop by the table
   ends : (j : ℕ) → 1 ≤ j → j ≤ length k.jobs → stop_in l j ≡ completion (drawing k.machines ps) j
   ends j low high =
-      stop_is false (length k.jobs) ps l has j low high
+      stop_is (length k.jobs) ps l has j low high
       ∙ sym (completion-drawing k.machines ps j schedule.none_twice (λ i d h. (known i d h).1)
       (λ i d h. sound_times (get_or ps i d) (schedule.sound i d h)) low)
 
@@ -61,7 +61,7 @@ is_sum_class g c =
 total_is : (g : _) (c : goal.After-total_by g)
     → c.total_by.result
     ≡ total_of c.args.task.now (stop_in c.args.lanes.now) (length c.args.task.now.jobs)
-total_is g c = rw (c.first_lane.ensures, c.second_lane.ensures) at c.total_by.ensures
+total_is g c = rw c.extents.ensures at c.total_by.ensures
 
 small : (g : _) (c : goal.After-total_by g)
     → c.total_by.result ≤ 16000000000000000000000000000000000000
@@ -92,7 +92,5 @@ returns-else-is_sum g c ps schedule known has =
     to_z-of_z w128 c.greatest_by.result fits
     ∙ greatest_is c.args.task.now ps schedule known c.args.lanes.now has other
     c.class.ensures.sound.some_job c.greatest_by.result
-    (rw (c.first_lane-else-is_sum.ensures, c.second_lane-else-is_sum.ensures)
-    at c.greatest_by.ensures.all)
-    (rw (c.first_lane-else-is_sum.ensures, c.second_lane-else-is_sum.ensures)
-    at c.greatest_by.ensures.reached)
+    (rw c.extents-else-is_sum.ensures at c.greatest_by.ensures.all)
+    (rw c.extents-else-is_sum.ensures at c.greatest_by.ensures.reached)

@@ -16,22 +16,22 @@ loop-k-preserved g c =
     to_z-of_z w128 c.max-value.result fits in
     let j = c.at-in-loop-k.result in
     let own : to_z w128 (of_z w128 c.price_by.result)
-    ≡ price c.args.task.now j (stop_by c.args.first.now c.args.second.now j) =
+    ≡ price c.args.task.now j (stop_by c.args.extents.now j) =
     to_z-of_z w128 c.price_by.result fits_price ∙ c.price_by.ensures in
     let inside : c.loop-k.k < length c.args.task.now.jobs =
     omega (arith, c.loop-k-test.true, c.len-jobs.ensures.value) in
     let raised : c.max-value.result
     ≡ int_max (to_z w128 c.loop-k.value-bits)
-    (price c.args.task.now j (stop_by c.args.first.now c.args.second.now j)) =
+    (price c.args.task.now j (stop_by c.args.extents.now j)) =
     c.max-value.ensures.value ∙ ap (λ (z : ℤ). int_max (to_z w128 c.loop-k.value-bits) z) own in
     let new : to_z w128 (of_z w128 c.max-value.result)
     ≡ int_max (to_z w128 c.loop-k.value-bits)
-    (price c.args.task.now j (stop_by c.args.first.now c.args.second.now j)) = stored ∙ raised in
+    (price c.args.task.now j (stop_by c.args.extents.now j)) = stored ∙ raised in
     record {
-      all = price_all c.args.task.now (stop_by c.args.first.now c.args.second.now) c.loop-k.k j
+      all = price_all c.args.task.now (stop_by c.args.extents.now) c.loop-k.k j
           (to_z w128 c.loop-k.value-bits) (to_z w128 (of_z w128 c.max-value.result)) inside
           c.at-in-loop-k.ensures new c.loop-k.invariant.all;
-      reached = price_reached c.args.task.now (stop_by c.args.first.now c.args.second.now) c.loop-k.k j
+      reached = price_reached c.args.task.now (stop_by c.args.extents.now) c.loop-k.k j
           (to_z w128 c.loop-k.value-bits) (to_z w128 (of_z w128 c.max-value.result)) inside
           c.at-in-loop-k.ensures new c.loop-k.invariant.reached;
     }

@@ -1,4 +1,4 @@
-use Rattle.std.proofs.Common.{rules, false, length, subst, ◌∙◌, arith, SFits}
+use Rattle.std.proofs.Common.{rules, length, subst, ◌∙◌, arith, SFits}
 use Rattle.std.specs.Int.{w128}
 use Rattle.std.proofs.lemmas.Int.{to_z-of_z}
 use Rattle.tf_posed.specs.Agreement.{posed}
@@ -15,7 +15,7 @@ pub cost_in-requires : goal.cost_in-requires
 cost_in-requires g c = record {
   stops = λ j job. omega (
     arith,
-    stop_is false (length (posed c.args.task.now).jobs) c.args.schedule.now
+    stop_is (length (posed c.args.task.now).jobs) c.args.schedule.now
         c.in_ok-misfit.field-0.jobs c.in_ok-misfit.ensures.jobs j job.0
         (omega (arith, job.1, size c.args.task.now)),
     stop_within c.args.schedule.now c.in_ok-misfit.ensures.schedule.sound j,
@@ -27,8 +27,8 @@ returns g c =
     let k = c.args.task.now in
     let ps = c.args.schedule.now in
     let judged = c.in_ok-misfit.ensures in
-    let has : HasLanes false (length k.jobs) ps c.in_ok-misfit.field-0.jobs =
-    subst (λ n. HasLanes false n ps c.in_ok-misfit.field-0.jobs) (size k) judged.jobs in
+    let has : HasLanes (length k.jobs) ps c.in_ok-misfit.field-0.jobs =
+    subst (λ n. HasLanes n ps c.in_ok-misfit.field-0.jobs) (size k) judged.jobs in
     record {
       fit = elim c.match-misfit.branch [
         | in-Some w ↦
