@@ -1,6 +1,6 @@
 pub mod Unread
 pub mod ReadThrough
-pub mod Unchecked
+pub mod Ending
 pub mod Undrawn
 pub mod Readable
 pub mod AcceptedAgain

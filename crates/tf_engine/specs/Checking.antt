@@ -1,6 +1,5 @@
 -- What a check of an answer text leaves behind.
 use Rattle.std.specs.Prelude.{◌≡◌, ℕ, ◌⊎◌, true, false, List, Some, Result, Ok, Err, IsOk, MatchResult, length}
-use Rattle.std.specs.Io.KnownBytes.{Appends}
 use Rattle.tf_model.specs.SchedulingTask.{SchedulingTask}
 use Rattle.tf_model.specs.ClassTable.{class_of}
 use Rattle.tf_check.specs.Accepted.{IsAccepted, IsBestAnswer}
@@ -16,7 +15,7 @@ use Rattle.tf_engine.specs.declared.run_check.Checked.{Checked}
 use Rattle.tf_engine.specs.declared.run_check.Checked.TheVariants.{Accepted, OtherTask, Rejected}
 use Rattle.tf_engine.specs.RequestData.{RequestData}
 use Rattle.tf_engine.specs.Refusal.{task_for}
-use Rattle.tf_engine.specs.Runs.{Leaves}
+use Rattle.tf_engine.specs.Runs.{Run}
 use Rattle.tf_engine.specs.VerdictLine.{verdict_line}
 
 -- the sheet's problem is of the task's class, and its sizes are the task's
@@ -46,11 +45,6 @@ abbrev pub IsOfAnswer : List ℕ → Refused → Type 0
 IsOfAnswer text refused = (fault : AnswerFault) × (refused ≡ ByAnswer fault)
     × (answer_in text ≡ Err fault)
 
--- a line that says the verdict
-abbrev pub SaysVerdict : RequestData → List ℕ → List ℕ → List ℕ → Type 0
-SaysVerdict request instance answer out =
-    (checked : Checked) × IsChecked request instance answer checked × (out ≡ verdict_line checked)
-
 -- the refusal is the one of the definitions, or there is a task and the answer text is at fault
 abbrev pub IsRefusedCheck : RequestData → List ℕ → List ℕ → Refused → Type 0
 IsRefusedCheck request instance answer refused =
@@ -62,22 +56,15 @@ abbrev pub HasReaderFailed : RequestData → List ℕ → DeviceUse → DeviceUs
 HasReaderFailed request text instance answer =
     (instance.failed ≡ true) ⊎ (IsOk (task_for request text) × (answer.failed ≡ true))
 
--- A check says its verdict in one line, or gives the one refusal. Where memory was wanting it gives
--- neither. Nothing was written then, nor after a refusal or where a reader failed; where the writer
--- failed a prefix of the line was.
--- The outcome is that of two texts, which are all bytes of the readers up to their ends where they
--- are known.
-pub record IsCheckOf {A : Type 0} (request : RequestData) (instance answer writer : DeviceUse)
-    (result : Result Checked (RunFault A)) : Type 0 where
-  pub text : List ℕ
-  pub is_all : IsTextOf instance.before text
-  pub answer_text : List ℕ
-  pub is_whole_answer : IsTextOf answer.before answer_text
-  pub outcome : MatchResult result
-      (λ checked. IsChecked request text answer_text checked
-      × Appends writer.before writer.after (verdict_line checked))
-      (λ e. Leaves (SaysVerdict request text answer_text) (IsRefusedCheck request text answer_text)
-      (HasReaderFailed request text instance answer) writer (stop_of e))
+-- a run over an instance and an answer, which writes its verdict in one line
+abbrev pub check_run : RequestData → DeviceUse → DeviceUse → Run (List ℕ × List ℕ) Checked
+check_run request instance answer = record {
+  Over = λ texts. IsTextOf instance.before texts.0 × IsTextOf answer.before texts.1;
+  Says = λ texts checked out. IsChecked request texts.0 texts.1 checked
+      × (out ≡ verdict_line checked);
+  IsRefused = λ texts refused. IsRefusedCheck request texts.0 texts.1 refused;
+  ReaderFailed = λ texts. HasReaderFailed request texts.0 instance answer;
+}
 
 -- the verdict is that the answer is best, or the run stopped for a device's or memory's sake
 abbrev pub AcceptsUnlessStopped : {A : Type 0} → Result Checked (RunFault A) → Type 0

@@ -1,12 +1,10 @@
 -- What a run leaves behind.
-use Rattle.std.specs.Prelude.{◌≡◌, ℕ, ◌≤◌, ◌⊎◌, true, List, Result, Ok, Err, MatchResult, length}
-use Rattle.std.specs.Io.KnownBytes.{Appends}
+use Rattle.std.specs.Prelude.{◌≡◌, ℕ, ◌≤◌, ◌⊎◌, true, List, Ok, Err, length}
 use Rattle.tf_model.specs.SchedulingTask.{SchedulingTask}
 use Rattle.tf_text.specs.Counted.{DeviceUse}
 use Rattle.tf_text.specs.Input.{IsTextOf}
 use Rattle.tf_text.specs.AnswerText.{SheetData, answer_text}
-use Rattle.tf_engine.specs.declared.fault.RunFault.{RunFault}
-use Rattle.tf_engine.specs.Faults.{Refused, ByCycle, stop_of}
+use Rattle.tf_engine.specs.Faults.{Refused, ByCycle}
 use Rattle.tf_engine.specs.RequestData.{RequestData}
 use Rattle.tf_check.specs.Accepted.{IsAccepted, IsBestAnswer}
 use Rattle.tf_words.specs.Words.{lines, kept_lines}
@@ -16,7 +14,7 @@ use Rattle.tf_engine.specs.declared.run_check.Checked.TheVariants.{Accepted}
 use Rattle.tf_engine.specs.Checking.{IsChecked}
 use Rattle.tf_engine.specs.Refusal.{problem_for, task_for}
 use Rattle.tf_engine.specs.Rules.{IsByRule}
-use Rattle.tf_engine.specs.Runs.{Leaves}
+use Rattle.tf_engine.specs.Runs.{Run}
 use Rattle.tf_single.specs.NotSolved.{IsNamedCycle}
 
 -- The request and the text mean a task. `out` is the text, in the request's layout, of a sheet with
@@ -57,15 +55,11 @@ IsRefusedRun request text refused =
     (task_for request text ≡ Err refused)
     ⊎ ((jobs : List ℕ) × (refused ≡ ByCycle jobs) × IsCyclic request text jobs)
 
--- A run answers in full, or gives the one refusal. Where memory was wanting it gives neither.
--- Nothing was written then, nor after a refusal or where the reader failed; where the writer failed a
--- prefix of an answer was. The outcome is that of a text, which is all bytes of the reader up to its
--- end where they are known.
-pub record IsRunOf {A : Type 0} (request : RequestData) (reader writer : DeviceUse)
-    (result : Result (Unit {0}) (RunFault A)) : Type 0 where
-  pub text : List ℕ
-  pub is_all : IsTextOf reader.before text
-  pub outcome : MatchResult result
-      (λ _. (out : List ℕ) × IsAnswered request text out × Appends writer.before writer.after out)
-      (λ e. Leaves (IsAnswered request text) (IsRefusedRun request text) (reader.failed ≡ true) writer
-      (stop_of e))
+-- a run over an instance, which writes an answer
+abbrev pub solve_run : RequestData → DeviceUse → Run (List ℕ) (Unit {0})
+solve_run request reader = record {
+  Over = λ text. IsTextOf reader.before text;
+  Says = λ text _ out. IsAnswered request text out;
+  IsRefused = λ text refused. IsRefusedRun request text refused;
+  ReaderFailed = λ text. reader.failed ≡ true;
+}

@@ -15,3 +15,4 @@ pub mod Devices
 pub mod Passed
 pub mod Parts
 pub mod CaseParts
+pub mod Outputs

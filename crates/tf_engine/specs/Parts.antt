@@ -16,13 +16,12 @@ use Rattle.tf_text.specs.AnswerReading.{answer_in, sheet_of}
 use Rattle.tf_check.specs.Accepted.{IsAccepted, IsBestAnswer}
 use Rattle.tf_engine.specs.Rules.{IsByRule}
 use Rattle.tf_engine.specs.declared.fault.RunFault.{RunFault}
-use Rattle.tf_engine.specs.Faults.{Refused, ByText, ByTask, ByAnswer, Stop, Refuses, Fails, Wants, is_refusal, is_of_whole, stop_of, end_of}
+use Rattle.tf_engine.specs.Faults.{Refused, ByText, ByTask, Stop, Refuses, Fails, Wants, is_refusal, is_of_whole, stop_of, end_of}
 use Rattle.tf_engine.specs.Devices.{LeavesReader}
 use Rattle.tf_engine.specs.FormData.{FormData}
 use Rattle.tf_engine.specs.Refusal.{refused_by, instance_in, problem_for, task_for}
 use Rattle.tf_engine.specs.RequestData.{RequestData}
 use Rattle.tf_engine.specs.Checking.{IsOfAnswer}
-use Rattle.tf_engine.specs.Headline.{IsRefusedRun}
 
 -- why a part stops that reads and writes nothing
 abbrev pub StopsBy : (Refused → Type 0) → Stop → Type 0
@@ -92,12 +91,6 @@ pub record IsSolved (request : RequestData) (text : List ℕ) (sheet : SheetData
   pub task : SchedulingTask
   pub meant : task_for request text ≡ Ok task
   pub solved : IsSheetFor request task sheet
-
--- a sheet that answers the request and the text, or why there is none
-abbrev pub GivesSheet : {A : Type 0} → RequestData → List ℕ → Result SheetData (RunFault A) → Type 0
-GivesSheet request text result =
-    MatchResult result (IsSolved request text)
-    (λ e. StopsBy (IsRefusedRun request text) (stop_of e))
 
 -- A part that reads an answer text gives the sheet that it says, or the fault of the text, which is
 -- all bytes of the reader up to its end where they are known.

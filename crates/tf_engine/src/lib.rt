@@ -5,6 +5,7 @@
 pub mod case;
 pub mod fault;
 pub mod form_read;
+pub mod output;
 pub mod request;
 pub mod run_check;
 pub mod run_gantt;

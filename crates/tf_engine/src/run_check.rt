@@ -3,12 +3,15 @@ ghost use Rattle.std.specs.Prelude.{◌≡◌, ℕ, List, Some, IfOk, IsTrue, �
 ghost use Rattle.tf_text.specs.Counted.{inner_of, use_of};
 ghost use Rattle.tf_engine.specs.Refusal.{problem_for};
 ghost use Rattle.tf_engine.specs.Faults.{end_of};
-ghost use Rattle.tf_engine.specs.Devices.{LeavesCase};
-ghost use Rattle.tf_engine.specs.Checking.{IsCheckOf, IsChecked, AcceptsUnlessStopped, IsFor};
+ghost use Rattle.tf_engine.specs.Devices.{LeavesBoth, LeavesCase};
+ghost use Rattle.tf_engine.specs.Checking.{check_run, IsChecked, AcceptsUnlessStopped, IsFor};
 ghost use Rattle.tf_engine.specs.Checking.{IsVerdict};
+ghost use Rattle.tf_engine.specs.Outputs.{MakesOutput};
+ghost use Rattle.tf_engine.specs.Runs.{IsOutcome};
 
 use crate::case::{Case, case_read};
 use crate::fault::RunFault;
+use crate::output::{Output, write_output};
 use crate::request::Request;
 use crate::verdict_line::verdict_bytes;
 use std::alloc::Allocator;
@@ -47,8 +50,9 @@ pub fn run_check<A: Allocator + Copy, B: Allocator, R: Read, S: Read, W: Write>(
     answer: &mut Counted<S>,
     writer: &mut Counted<W>,
 ) -> Result<Checked, RunFault<A>>
-    ensures outcome { IsCheckOf request.now (use_of R.remaining instance.old instance.new)
-        (use_of S.remaining answer.old answer.new) (use_of W.contents writer.old writer.new)
+    ensures outcome { IsOutcome (check_run request.now
+        (use_of R.remaining instance.old instance.new)
+        (use_of S.remaining answer.old answer.new)) (use_of W.contents writer.old writer.new)
         result }
     // An answer that the definitions accept is accepted, above all one that `run_solve` wrote.
     ensures accepts { (text answer_text : List ℕ) →
@@ -58,12 +62,25 @@ pub fn run_check<A: Allocator + Copy, B: Allocator, R: Read, S: Read, W: Write>(
     ensures devices { LeavesCase (problem_for request.now.problem) R.remaining instance.old
         instance.new S.remaining answer.old answer.new writer.old writer.new (end_of result) }
 {
-    let case = case_read(alloc, request, instance, answer)?;
-    let Case { asked, sheet } = case;
-    let checked = verdict_on(alloc, &asked.task, sheet)?;
-    let line = verdict_bytes(alloc, &checked)?;
-    writer.push_all(line.as_slice())?;
-    Ok(checked)
+    write_output(writer, verdict_output(alloc, request, instance, answer))
+}
+
+// The verdict, and its line.
+fn verdict_output<A: Allocator + Copy, B: Allocator, R: Read, S: Read>(
+    alloc: A,
+    request: &Request<B>,
+    instance: &mut Counted<R>,
+    answer: &mut Counted<S>,
+) -> Result<Output<Checked, A>, RunFault<A>>
+    ensures { MakesOutput (check_run request.now (use_of R.remaining instance.old instance.new)
+        (use_of S.remaining answer.old answer.new))
+        (LeavesBoth (problem_for request.now.problem) R.remaining instance.old instance.new
+        S.remaining answer.old answer.new) result }
+{
+    let Case { asked, sheet } = case_read(alloc, request, instance, answer)?;
+    let returned = verdict_on(alloc, &asked.task, sheet)?;
+    let text = verdict_bytes(alloc, &returned)?;
+    Ok(Output { text, returned })
 }
 
 /// Whether the sheet's problem is of the task's class, and its sizes are the task's.
