@@ -2,7 +2,6 @@ mod BoundRead
 mod Offering
 mod Assessing
 pub mod Reading
-mod Running
 mod Written
 mod Measuring
 mod Serving

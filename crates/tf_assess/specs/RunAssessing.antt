@@ -1,6 +1,5 @@
 -- What an assessment of an answer text leaves behind.
-use Rattle.std.specs.Prelude.{◌≡◌, ℕ, ◌⊎◌, true, List, length, Option, Result, Ok, Err, IsOk, MatchResult}
-use Rattle.std.specs.Io.KnownBytes.{Appends}
+use Rattle.std.specs.Prelude.{◌≡◌, ℕ, ◌⊎◌, true, List, length, Option, Result, Ok, IsOk, MatchResult}
 use Rattle.tf_posed.specs.ProblemData.{ProblemData}
 use Rattle.tf_text.specs.declared.counted.Counted.{Counted}
 use Rattle.tf_text.specs.Counted.{DeviceUse, inner_of, use_of}
@@ -12,7 +11,7 @@ use Rattle.tf_engine.specs.Faults.{Refused, stop_of, end_of}
 use Rattle.tf_engine.specs.Parts.{StopsReading}
 use Rattle.tf_engine.specs.Checking.{IsOfAnswer}
 use Rattle.tf_engine.specs.RequestData.{RequestData}
-use Rattle.tf_engine.specs.Runs.{Leaves}
+use Rattle.tf_engine.specs.Runs.{Run}
 use Rattle.tf_engine.specs.Devices.{LeavesBoth}
 use Rattle.tf_plan.specs.Order.{IsFeasible}
 use Rattle.tf_bounding.specs.Feasible.{IsCyclicTask}
@@ -36,12 +35,6 @@ pub record IsAssessed {A : Type 0} (offer : Option BoundSheetData) (request : Re
   pub is : IsAssessment task offer sheet a
   pub written : out ≡ assessment_text task (length task.jobs) a
 
--- a text that says the assessment
-abbrev pub SaysAssessment : Type 0 → Option BoundSheetData → RequestData → List ℕ → List ℕ
-    → List ℕ → Type 0
-SaysAssessment A offer request instance answer out =
-    (a : Assessment A) × IsAssessed offer request instance answer out a
-
 -- the refusal is one of a bound, or there is a task and the answer text is at fault
 abbrev pub IsRefusedAssessment : RequestData → List ℕ → List ℕ → Refused → Type 0
 IsRefusedAssessment request instance answer refused =
@@ -60,28 +53,18 @@ abbrev pub HasProblemReaderFailed : RequestData → List ℕ → DeviceUse → D
 HasProblemReaderFailed request text instance answer =
     (instance.failed ≡ true) ⊎ (IsOk (problem_task_for request text) × (answer.failed ≡ true))
 
--- An assessment is written, or the one refusal is given. Where memory was wanting there is neither.
--- Nothing was written then, nor after a refusal or where a reader failed; where the writer failed a
--- prefix of the text was.
-abbrev pub AssessingOutcome : {A : Type 0} → Option BoundSheetData → RequestData → List ℕ → List ℕ
-    → DeviceUse → DeviceUse → DeviceUse → Result Assessed (RunFault A) → Type 0
-AssessingOutcome {A = A} offer request text answer_text instance answer writer (Ok assessed) =
-    (out : List ℕ) × (a : Assessment A) × IsAssessed offer request text answer_text out a
-    × (assessed ≡ assessed_of a.fit a.bound.value) × Appends writer.before writer.after out
-AssessingOutcome {A = A} offer request text answer_text instance answer writer (Err e) =
-    Leaves (SaysAssessment A offer request text answer_text)
-    (IsRefusedAssessing request text answer_text)
-    (HasProblemReaderFailed request text instance answer) writer (stop_of e)
-
--- The outcome is that of two texts, which are all bytes of the readers up to their ends where they
--- are known.
-pub record IsAssessmentOf {A : Type 0} (offer : Option BoundSheetData) (request : RequestData)
-    (instance answer writer : DeviceUse) (result : Result Assessed (RunFault A)) : Type 0 where
-  pub text : List ℕ
-  pub is_all : IsTextOf instance.before text
-  pub answer_text : List ℕ
-  pub is_whole_answer : IsTextOf answer.before answer_text
-  pub outcome : AssessingOutcome offer request text answer_text instance answer writer result
+-- a run over an instance and an answer, which writes an assessment and returns what the schedule
+-- comes to
+abbrev pub assessment_run : Type 0 → Option BoundSheetData → RequestData → DeviceUse → DeviceUse
+    → Run (List ℕ × List ℕ) Assessed
+assessment_run A offer request instance answer = record {
+  Over = λ texts. IsTextOf instance.before texts.0 × IsTextOf answer.before texts.1;
+  Says = λ texts assessed out. (a : Assessment A)
+      × IsAssessed offer request texts.0 texts.1 out a
+      × (assessed ≡ assessed_of a.fit a.bound.value);
+  IsRefused = λ texts refused. IsRefusedAssessing request texts.0 texts.1 refused;
+  ReaderFailed = λ texts. HasProblemReaderFailed request texts.0 instance answer;
+}
 
 -- ---- reading
 

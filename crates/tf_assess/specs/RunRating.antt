@@ -8,14 +8,15 @@ use Rattle.tf_engine.specs.declared.fault.RunFault.{RunFault}
 use Rattle.tf_engine.specs.Faults.{Refused}
 use Rattle.tf_engine.specs.Refusal.{problem_for}
 use Rattle.tf_engine.specs.RequestData.{RequestData}
+use Rattle.tf_engine.specs.Runs.{IsOutcome}
 use Rattle.tf_bounding.specs.RunBounding.{problem_in}
 use Rattle.tf_evaluate.specs.declared.evaluation.Detail.{Detail}
 use Rattle.tf_evaluate.specs.declared.evaluation.Standing.{Standing}
 use Rattle.tf_evaluate.specs.declared.evaluation.Standing.TheVariants as standings
-use Rattle.tf_evaluate.specs.RunEvaluating.{IsEvaluationOf}
+use Rattle.tf_evaluate.specs.RunEvaluating.{evaluation_run}
 use Rattle.tf_assess.specs.declared.assessment.Assessed.{Assessed}
 use Rattle.tf_assess.specs.declared.assessment.Assessed.TheVariants.{Best, Unproved, Unfit}
-use Rattle.tf_assess.specs.RunAssessing.{IsAssessmentOf}
+use Rattle.tf_assess.specs.RunAssessing.{assessment_run}
 
 -- whether the problem of a line is of a class, which has a solver
 abbrev pub is_solved_by : Result Problem ℕ → Bool
@@ -44,7 +45,8 @@ posed_problem text = if is_solved text then problem_for text else problem_in tex
 pub record IsRatingOf {A : Type 0} (detail : Detail) (request : RequestData)
     (instance answer writer : DeviceUse) (result : Result Standing (RunFault A)) : Type 0 where
   pub solved : IsTrue (is_solved request.problem)
-      → IsEvaluationOf detail request instance answer writer result
+      → IsOutcome (evaluation_run detail request instance answer) writer result
   pub unsolved : IsFalse (is_solved request.problem)
-      → (run : Result Assessed (RunFault A)) × IsAssessmentOf None request instance answer writer run
+      → (run : Result Assessed (RunFault A))
+      × IsOutcome (assessment_run A None request instance answer) writer run
       × (result ≡ rated run)

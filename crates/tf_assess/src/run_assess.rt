@@ -1,9 +1,11 @@
 //! Assessing somebody's answer to a problem without a solver, from bytes to bytes.
 ghost use Rattle.tf_text.specs.Counted.{use_of};
-ghost use Rattle.tf_engine.specs.Devices.{LeavesCase};
+ghost use Rattle.tf_engine.specs.Devices.{LeavesBoth, LeavesCase};
 ghost use Rattle.tf_engine.specs.Faults.{end_of};
+ghost use Rattle.tf_engine.specs.Outputs.{MakesOutput};
+ghost use Rattle.tf_engine.specs.Runs.{IsOutcome};
 ghost use Rattle.tf_bounding.specs.RunBounding.{problem_in};
-ghost use Rattle.tf_assess.specs.RunAssessing.{IsAssessmentOf};
+ghost use Rattle.tf_assess.specs.RunAssessing.{assessment_run};
 
 use crate::assess::assess;
 use crate::assessment::Assessed;
@@ -14,6 +16,7 @@ use std::alloc::{Allocator, Global};
 use std::io::{Read, Write};
 use tf_bounding::feasible::check_feasible;
 use tf_engine::fault::RunFault;
+use tf_engine::output::{Output, write_output};
 use tf_engine::request::Request;
 use tf_search::effort::Progress;
 use tf_text::counted::Counted;
@@ -47,13 +50,29 @@ pub fn run_assess<
     answer: &mut Counted<S>,
     writer: &mut Counted<W>,
 ) -> Result<Assessed, RunFault<A>>
-    ensures outcome { IsAssessmentOf asked.entry.aids.offered asked.entry.request.now
+    ensures outcome { IsOutcome (assessment_run A asked.entry.aids.offered asked.entry.request.now
         (use_of R.remaining instance.old instance.new)
-        (use_of S.remaining answer.old answer.new) (use_of W.contents writer.old writer.new)
+        (use_of S.remaining answer.old answer.new)) (use_of W.contents writer.old writer.new)
         result }
     ensures devices { LeavesCase (problem_in asked.entry.request.now.problem) R.remaining
         instance.old instance.new S.remaining answer.old answer.new writer.old writer.new
         (end_of result) }
+{
+    write_output(writer, assessment_output(alloc, asked, instance, answer))
+}
+
+// The text of the assessment, and what the schedule comes to.
+fn assessment_output<A: Allocator + Copy, B: Allocator, P: Progress + Drop, R: Read, S: Read>(
+    alloc: A,
+    asked: AssessmentRequest<'_, P, A, B>,
+    instance: &mut Counted<R>,
+    answer: &mut Counted<S>,
+) -> Result<Output<Assessed, A>, RunFault<A>>
+    ensures { MakesOutput (assessment_run A asked.entry.aids.offered asked.entry.request.now
+        (use_of R.remaining instance.old instance.new)
+        (use_of S.remaining answer.old answer.new))
+        (LeavesBoth (problem_in asked.entry.request.now.problem) R.remaining instance.old
+        instance.new S.remaining answer.old answer.new) result }
 {
     let AssessmentRequest { request, aids } = asked;
     let case = problem_case_read(alloc, request, instance, answer)?;
@@ -61,6 +80,6 @@ pub fn run_assess<
     check_feasible(alloc, &task)?;
     let assessment = assess(alloc, &task, sheet, aids)?;
     let text = assessment_bytes(alloc, &task, &assessment)?;
-    writer.push_all(text.as_slice())?;
-    Ok(assessment.assessed())
+    let returned = assessment.assessed();
+    Ok(Output { text, returned })
 }

@@ -1,7 +1,6 @@
 pub mod Cyclic
 pub mod PlacedWords
 pub mod Reading
-pub mod Running
 pub mod ShopPlaces
 pub mod ShopSaid
 pub mod ShopTimes

@@ -1,6 +1,5 @@
 -- What a run that bounds a problem leaves behind.
 use Rattle.std.specs.Prelude.{◌≡◌, ℕ, ◌⊎◌, true, List, length, Option, Result, Ok, Err, MatchResult, if◌then◌else◌}
-use Rattle.std.specs.Io.KnownBytes.{Appends}
 use Rattle.tf_model.specs.Outcome.{◌>>=◌}
 use Rattle.tf_model.specs.declared.problem.Problem.{Problem}
 use Rattle.tf_model.specs.declared.prepare.Refusal.TheVariants.{NoSolver, TotalTooLarge}
@@ -11,11 +10,11 @@ use Rattle.tf_text.specs.Input.{IsTextOf}
 use Rattle.tf_posed.specs.ProblemData.{ProblemData, is_covered}
 use Rattle.tf_bound.specs.Sized.{IsSized}
 use Rattle.tf_engine.specs.declared.fault.RunFault.{RunFault}
-use Rattle.tf_engine.specs.Faults.{Refused, ByNotation, ByTask, Stop, stop_of, end_of}
-use Rattle.tf_engine.specs.Parts.{StopsBy, StopsReading}
+use Rattle.tf_engine.specs.Faults.{Refused, ByNotation, ByTask, stop_of, end_of}
+use Rattle.tf_engine.specs.Parts.{StopsReading}
 use Rattle.tf_engine.specs.Refusal.{refused_by}
 use Rattle.tf_engine.specs.RequestData.{RequestData}
-use Rattle.tf_engine.specs.Runs.{Leaves}
+use Rattle.tf_engine.specs.Runs.{Run}
 use Rattle.tf_engine.specs.Devices.{LeavesInstance}
 use Rattle.tf_search.specs.declared.strongest.Found.{Found}
 use Rattle.tf_search.specs.Strongest.{IsFound}
@@ -53,9 +52,6 @@ pub record Bounds {A : Type 0} (request : RequestData) (text out : List ℕ) (fo
   pub is : IsFound task found
   pub written : out ≡ bound_text task (length task.jobs) found.value found.certificate
 
-abbrev pub SaysBound : Type 0 → RequestData → List ℕ → List ℕ → Type 0
-SaysBound A request text out = (found : Found A) × Bounds request text out found
-
 -- the refusal is the one of the definitions, or nothing else is refused and a number or a total of
 -- the task is beyond the limits
 abbrev pub IsRefusedBound : RequestData → List ℕ → Refused → Type 0
@@ -81,21 +77,11 @@ pub record ReadsProblemTask {A T : Type 0} (request : RequestData) (remaining : 
       (λ e. StopsReading (IsRefusedBound request text) (has_failed new ≡ true) (stop_of e))
   pub reader : LeavesInstance (problem_in request.problem) remaining old new (end_of result)
 
--- A bound is written, or the one refusal is given. Where memory was wanting there is neither. Nothing
--- was written then, nor after a refusal or where the reader failed; where the writer failed a prefix
--- of the text was.
-abbrev pub BoundingOutcome : {A : Type 0} → RequestData → List ℕ → DeviceUse → DeviceUse
-    → Result (Unit {0}) (RunFault A) → Type 0
-BoundingOutcome {A = A} request text reader writer (Ok _) =
-    (out : List ℕ) × SaysBound A request text out × Appends writer.before writer.after out
-BoundingOutcome {A = A} request text reader writer (Err e) =
-    Leaves (SaysBound A request text) (IsRefusedBounding request text) (reader.failed ≡ true)
-    writer (stop_of e)
-
--- The outcome is that of a text, which is all bytes of the reader up to its end where they are
--- known.
-pub record IsBoundingOf {A : Type 0} (request : RequestData) (reader writer : DeviceUse)
-    (result : Result (Unit {0}) (RunFault A)) : Type 0 where
-  pub text : List ℕ
-  pub is_all : IsTextOf reader.before text
-  pub outcome : BoundingOutcome request text reader writer result
+-- a run over an instance, which writes a bound
+abbrev pub bound_run : Type 0 → RequestData → DeviceUse → Run (List ℕ) (Unit {0})
+bound_run A request reader = record {
+  Over = λ text. IsTextOf reader.before text;
+  Says = λ text _ out. (found : Found A) × Bounds request text out found;
+  IsRefused = λ text refused. IsRefusedBounding request text refused;
+  ReaderFailed = λ text. reader.failed ≡ true;
+}

@@ -5,12 +5,13 @@ use Rattle.tf_text.specs.Counted.{DeviceUse}
 use Rattle.tf_text.specs.Input.{IsTextOf}
 use Rattle.tf_engine.specs.declared.fault.RunFault.{RunFault}
 use Rattle.tf_engine.specs.RequestData.{RequestData}
+use Rattle.tf_engine.specs.Runs.{IsOutcome}
 use Rattle.tf_bound_text.specs.BoundSheetData.{BoundSheetData}
 use Rattle.tf_bound_text.specs.BoundReading.{bound_in}
 use Rattle.tf_assess.specs.BoundRead.{IsUnread}
 use Rattle.tf_assess.specs.declared.bound_read.BoundReadFault.{BoundReadFault}
 use Rattle.tf_assess.specs.declared.assessment.Assessed.{Assessed}
-use Rattle.tf_assess.specs.RunAssessing.{IsAssessmentOf}
+use Rattle.tf_assess.specs.RunAssessing.{assessment_run}
 use Rattle.tf_assess.specs.RunRating.{rated}
 use Rattle.tf_command.specs.Ending.{line_of, status_of_evaluating}
 use Rattle.tf_command.specs.BoundLine.{bound_fault_line, status_of_bound}
@@ -31,7 +32,7 @@ pub record EndsUnread (bound writer : DeviceUse) (says : List ℕ → Type 0) (s
 pub record EndsAssessed (A : Type 0) (offer : Option BoundSheetData) (request : RequestData)
     (instance answer writer : DeviceUse) (says : List ℕ → Type 0) (status : ℕ) : Type 0 where
   pub run : Result Assessed (RunFault A)
-  pub outcome : IsAssessmentOf offer request instance answer writer run
+  pub outcome : IsOutcome (assessment_run A offer request instance answer) writer run
   pub ends : status ≡ status_of_evaluating (rated run)
   pub said : says (line_of (rated run))
 

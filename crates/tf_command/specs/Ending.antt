@@ -5,10 +5,11 @@ use Rattle.tf_text.specs.Counted.{DeviceUse}
 use Rattle.tf_engine.specs.declared.fault.RunFault.{RunFault}
 use Rattle.tf_engine.specs.declared.run_check.Checked.{Checked}
 use Rattle.tf_engine.specs.RequestData.{RequestData}
-use Rattle.tf_engine.specs.Headline.{IsRunOf}
-use Rattle.tf_engine.specs.Checking.{IsCheckOf}
+use Rattle.tf_engine.specs.Headline.{solve_run}
+use Rattle.tf_engine.specs.Checking.{check_run}
 use Rattle.tf_text.specs.AnswerText.{SheetData}
-use Rattle.tf_engine.specs.Drawing.{IsDrawingOf, IsChart}
+use Rattle.tf_engine.specs.Drawing.{drawing_run, IsChart}
+use Rattle.tf_engine.specs.Runs.{IsOutcome}
 use Rattle.tf_engine.specs.FormData.{FormData}
 use Rattle.tf_dated.specs.Dated.{IsDatedRunOf}
 use Rattle.tf_picture.specs.Picture.{IsPicture}
@@ -22,10 +23,10 @@ use Rattle.tf_assess.specs.Measures.{PosedData}
 use Rattle.tf_orders.specs.declared.run_orders.OrderForm.{OrderForm}
 use Rattle.tf_orders.specs.declared.run_orders.OrdersRated.{OrdersRated}
 use Rattle.tf_orders.specs.declared.run_orders.OrdersRated.TheVariants.{Single, Lines}
-use Rattle.tf_orders.specs.RunOrders.{IsOrdersRunOf}
+use Rattle.tf_orders.specs.RunOrders.{orders_run}
 use Rattle.tf_bound_text.specs.BoundSheetData.{BoundSheetData}
-use Rattle.tf_bounding.specs.RunBounding.{IsBoundingOf}
-use Rattle.tf_trace.specs.RunTracing.{IsTraceOf}
+use Rattle.tf_bounding.specs.RunBounding.{bound_run}
+use Rattle.tf_trace.specs.RunTracing.{trace_run}
 use Rattle.tf_asked.specs.declared.options.Drawing.{Drawing}
 use Rattle.tf_asked.specs.declared.options.Drawing.TheVariants.{Chart, Picture}
 use Rattle.tf_text.specs.declared.counted.Counted.{Counted}
@@ -83,28 +84,28 @@ pub record SaysLine {E : Type 0} (contents : E → Option (List ℕ)) (explain :
 pub record EndsSolving (A : Type 0) (request : RequestData) (instance writer : DeviceUse)
     (says : List ℕ → Type 0) (status : ℕ) : Type 0 where
   pub run : Result (Unit {0}) (RunFault A)
-  pub outcome : IsRunOf request instance writer run
+  pub outcome : IsOutcome (solve_run request instance) writer run
   pub ends : status ≡ status_of_run run
   pub said : says (line_of run)
 
 pub record EndsBounding (A : Type 0) (request : RequestData) (instance writer : DeviceUse)
     (says : List ℕ → Type 0) (status : ℕ) : Type 0 where
   pub run : Result (Unit {0}) (RunFault A)
-  pub outcome : IsBoundingOf request instance writer run
+  pub outcome : IsOutcome (bound_run A request instance) writer run
   pub ends : status ≡ status_of_run run
   pub said : says (line_of run)
 
 pub record EndsTracing (A : Type 0) (request : RequestData) (instance writer : DeviceUse)
     (says : List ℕ → Type 0) (status : ℕ) : Type 0 where
   pub run : Result (Unit {0}) (RunFault A)
-  pub outcome : IsTraceOf request instance writer run
+  pub outcome : IsOutcome (trace_run request instance) writer run
   pub ends : status ≡ status_of_run run
   pub said : says (line_of run)
 
 pub record EndsChecking (A : Type 0) (request : RequestData) (instance answer writer : DeviceUse)
     (says : List ℕ → Type 0) (status : ℕ) : Type 0 where
   pub run : Result Checked (RunFault A)
-  pub outcome : IsCheckOf request instance answer writer run
+  pub outcome : IsOutcome (check_run request instance answer) writer run
   pub ends : status ≡ status_of_checking run
   pub said : says (line_of run)
 
@@ -116,7 +117,7 @@ drawn_as (Picture view) = IsPicture view
 pub record EndsDrawing (A : Type 0) (drawing : Drawing) (answer writer : DeviceUse)
     (says : List ℕ → Type 0) (status : ℕ) : Type 0 where
   pub run : Result (Unit {0}) (RunFault A)
-  pub outcome : IsDrawingOf (drawn_as drawing) answer writer run
+  pub outcome : IsOutcome (drawing_run (drawn_as drawing) answer) writer run
   pub ends : status ≡ status_of_run run
   pub said : says (line_of run)
 
@@ -138,6 +139,6 @@ pub record EndsRating (A : Type 0) (form : OrderForm) (offer : Option BoundSheet
     (request : RequestData) (others : Option PosedData) (instance orders writer : DeviceUse)
     (says : List ℕ → Type 0) (status : ℕ) : Type 0 where
   pub run : Result OrdersRated (RunFault A)
-  pub outcome : IsOrdersRunOf form offer request others instance orders writer run
+  pub outcome : IsOutcome (orders_run A form offer request others instance orders) writer run
   pub ends : status ≡ status_of_rating run
   pub said : says (line_of run)

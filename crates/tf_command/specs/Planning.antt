@@ -3,11 +3,12 @@ use Rattle.std.specs.Prelude.{◌≡◌, ℕ, List, Result, Ok, Err, IsTrue, IsF
 use Rattle.tf_text.specs.Counted.{DeviceUse}
 use Rattle.tf_engine.specs.declared.fault.RunFault.{RunFault}
 use Rattle.tf_engine.specs.RequestData.{RequestData}
-use Rattle.tf_engine.specs.Headline.{IsRunOf}
+use Rattle.tf_engine.specs.Headline.{solve_run}
+use Rattle.tf_engine.specs.Runs.{IsOutcome}
 use Rattle.tf_assess.specs.RunRating.{is_solved}
 use Rattle.tf_planning.specs.declared.writing.Planned.{Planned}
 use Rattle.tf_planning.specs.declared.writing.Planned.TheVariants.{Optimal, Open}
-use Rattle.tf_planning.specs.RunPlanning.{IsPlanningOf}
+use Rattle.tf_planning.specs.RunPlanning.{plan_run}
 use Rattle.tf_command.specs.Ending.{line_of}
 use Rattle.tf_command.specs.Statuses.{status_of}
 
@@ -20,9 +21,11 @@ as_planned (Err fault) = Err fault
 pub record IsPlannedRun {A : Type 0} (request : RequestData) (instance writer : DeviceUse)
     (result : Result Planned (RunFault A)) : Type 0 where
   pub solved : IsTrue (is_solved request.problem)
-      → (run : Result (Unit {0}) (RunFault A)) × IsRunOf request instance writer run
+      → (run : Result (Unit {0}) (RunFault A))
+      × IsOutcome (solve_run request instance) writer run
       × (result ≡ as_planned run)
-  pub unsolved : IsFalse (is_solved request.problem) → IsPlanningOf request instance writer result
+  pub unsolved : IsFalse (is_solved request.problem)
+      → IsOutcome (plan_run A request instance) writer result
 
 -- after a plan: proved to be optimal, or not; and otherwise the status of its fault
 abbrev pub status_of_plan : {A : Type 0} → Result Planned (RunFault A) → ℕ

@@ -1,10 +1,12 @@
 //! Runs that search for a lower bound, which a terminal shows.
 ghost use Rattle.std.specs.Prelude.{◌≡◌};
-ghost use Rattle.tf_assess.specs.RunAssessing.{IsAssessmentOf};
+ghost use Rattle.std.specs.declared.alloc.Global.{Global};
+ghost use Rattle.tf_assess.specs.RunAssessing.{assessment_run};
 ghost use Rattle.tf_assess.specs.RunRating.{IsRatingOf};
-ghost use Rattle.tf_bounding.specs.RunBounding.{IsBoundingOf};
+ghost use Rattle.tf_bounding.specs.RunBounding.{bound_run};
 ghost use Rattle.tf_command.specs.Planning.{IsPlannedRun};
-ghost use Rattle.tf_orders.specs.RunOrders.{IsOrdersRunOf};
+ghost use Rattle.tf_engine.specs.Runs.{IsOutcome};
+ghost use Rattle.tf_orders.specs.RunOrders.{orders_run};
 ghost use Rattle.tf_command.specs.Recorded.{bytes_left};
 ghost use Rattle.tf_text.specs.Counted.{use_of};
 
@@ -109,8 +111,8 @@ pub(crate) fn bound_over<R: Read, W: Write, E: Write>(
     is_told: bool,
     instance: &mut Counted<Recorded<'_, R>>,
 ) -> Result<(), RunFault>
-    ensures outcome { IsBoundingOf request.now
-        (use_of (bytes_left R.remaining) instance.old instance.new)
+    ensures outcome { IsOutcome (bound_run Global request.now
+        (use_of (bytes_left R.remaining) instance.old instance.new))
         (use_of W.contents console.old.writer console.new.writer) result }
     ensures unsaid { console.new.errors ≡ console.old.errors }
 {
@@ -188,9 +190,10 @@ pub(crate) fn assess_over<R: Read, S: Read, W: Write, E: Write>(
     instance: &mut Counted<Recorded<'_, R>>,
     answer: &mut Counted<Recorded<'_, S>>,
 ) -> Result<Assessed, RunFault>
-    ensures outcome { IsAssessmentOf asked.entry.aids.offered asked.entry.request.now
+    ensures outcome { IsOutcome (assessment_run Global asked.entry.aids.offered
+        asked.entry.request.now
         (use_of (bytes_left R.remaining) instance.old instance.new)
-        (use_of (bytes_left S.remaining) answer.old answer.new)
+        (use_of (bytes_left S.remaining) answer.old answer.new))
         (use_of W.contents console.old.writer console.new.writer) result }
     ensures unsaid { console.new.errors ≡ console.old.errors }
 {
@@ -220,10 +223,10 @@ pub(crate) fn orders_over<R: Read, S: Read, W: Write, E: Write>(
     instance: &mut Counted<Recorded<'_, R>>,
     orders: &mut Counted<Recorded<'_, S>>,
 ) -> Result<OrdersRated, RunFault>
-    ensures outcome { IsOrdersRunOf asked.entry.form measuring.aids.offered
+    ensures outcome { IsOutcome (orders_run Global asked.entry.form measuring.aids.offered
         asked.entry.request.now measuring.others
         (use_of (bytes_left R.remaining) instance.old instance.new)
-        (use_of (bytes_left S.remaining) orders.old orders.new)
+        (use_of (bytes_left S.remaining) orders.old orders.new))
         (use_of W.contents console.old.writer console.new.writer) result }
     ensures unsaid { console.new.errors ≡ console.old.errors }
 {

@@ -7,7 +7,8 @@ ghost use Rattle.tf_command.specs.Ending.{EndsEvaluating, EndsDrawing, SaysLine}
 ghost use Rattle.tf_command.specs.Ending.{drawn_as};
 ghost use Rattle.tf_command.specs.Assessing.{EndsAssessed, EndsAssessing};
 ghost use Rattle.tf_command.specs.Planning.{EndsPlanning};
-ghost use Rattle.tf_engine.specs.Drawing.{IsDrawingOf};
+ghost use Rattle.tf_engine.specs.Drawing.{drawing_run};
+ghost use Rattle.tf_engine.specs.Runs.{IsOutcome};
 ghost use Rattle.std.specs.Prelude.{◌≡◌, ◌⊎◌, None, Some, IfSome, IfOk, IfErr, false, codes};
 ghost use Rattle.tf_command.specs.Performing.{EndsOver, EndsRandom, EndsWriting, Performs};
 ghost use Rattle.tf_command.specs.Recorded.{bytes_left};
@@ -635,7 +636,8 @@ pub fn draw<A: Allocator + Copy, R: Read, W: Write>(
     writer: &mut Counted<W>,
 ) -> Result<(), RunFault<A>>
     requires { HasWidth drawing }
-    ensures { IsDrawingOf (drawn_as drawing) (use_of R.remaining answer.old answer.new)
+    ensures { IsOutcome (drawing_run (drawn_as drawing)
+        (use_of R.remaining answer.old answer.new))
         (use_of W.contents writer.old writer.new) result }
 {
     match drawing {

@@ -1,6 +1,5 @@
 pub mod Written
 pub mod PermutedOutcomes
-pub mod Unevaluated
 pub mod Standing
 pub mod Given
 pub mod SumParts

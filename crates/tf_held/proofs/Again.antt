@@ -23,13 +23,14 @@ use Rattle.tf_engine.specs.FormData.{FormData, InWt}
 use Rattle.tf_engine.specs.RequestData.{RequestData}
 use Rattle.tf_engine.specs.Refusal.{refused_by, problem_for, task_for}
 use Rattle.tf_engine.specs.Faults.{Refused, ByText, ByTask, Stop, Refuses, Fails, Wants, stop_of}
-use Rattle.tf_engine.specs.Headline.{IsRunOf, IsAnswered, Answers, ShowsIt}
+use Rattle.tf_engine.specs.Headline.{IsAnswered, Answers, ShowsIt, solve_run}
+use Rattle.tf_engine.specs.Runs.{IsOutcome, Run}
 use Rattle.tf_engine.specs.declared.fault.RunFault.{RunFault}
-use Rattle.tf_bounding.specs.RunBounding.{IsBoundingOf, problem_in, problem_task_for}
+use Rattle.tf_bounding.specs.RunBounding.{bound_run, problem_in, problem_task_for}
 use Rattle.tf_evaluate.specs.declared.evaluation.Detail.{Detail}
 use Rattle.tf_evaluate.specs.declared.evaluation.Standing.{Standing}
-use Rattle.tf_evaluate.specs.RunEvaluating.{IsEvaluationOf}
-use Rattle.tf_assess.specs.RunAssessing.{IsAssessmentOf}
+use Rattle.tf_evaluate.specs.RunEvaluating.{evaluation_run}
+use Rattle.tf_assess.specs.RunAssessing.{assessment_run}
 use Rattle.tf_assess.specs.RunRating.{IsRatingOf, is_solved, rated}
 use Rattle.tf_assess.specs.declared.assessment.Assessed.{Assessed}
 use Rattle.tf_orders.specs.declared.measure.Measure.{Measure}
@@ -38,7 +39,7 @@ use Rattle.tf_orders.specs.declared.run_orders.OrderForm.{OrderForm}
 use Rattle.tf_orders.specs.declared.run_orders.OrderForm.TheVariants.{Single, Ruled as ByRule}
 use Rattle.tf_orders.specs.declared.run_orders.OrdersRated.{OrdersRated}
 use Rattle.tf_orders.specs.Measuring.{IsMeasure, detail_of}
-use Rattle.tf_orders.specs.RunOrders.{IsOrdersRunOf}
+use Rattle.tf_orders.specs.RunOrders.{orders_run}
 use Rattle.tf_asked.specs.declared.aids.Aids.{Aids}
 use Rattle.tf_asked.specs.Asking.{form_asked, requested}
 use Rattle.tf_asked.specs.declared.options.Evaluating.{Evaluating}
@@ -60,6 +61,13 @@ use Rattle.tf_held.specs.Texts.{held_texts}
 use Rattle.tf_held.specs.Series.{AreOptionsFor, IsEvaluatedBy, IsWorkFor, RunsFor, has_told}
 use Rattle.tf_held.specs.Instances.{HasInstance, AreParts, IsBehind, IsNamedApart}
 use Rattle.tf_held.proofs.Numbered.{next_instance, instance_index, instance_jobs}
+
+-- what a run wrote of texts another wrote of other texts, of which it says the same
+said_again : {A T X : Type 0} {run other : Run T X} {writer : DeviceUse} {x : X}
+    (r : IsOutcome {A = A} run writer (Ok x)) (texts : T) → other.Over texts
+    → other.Says texts x r.outcome.0 → IsOutcome {A = A} other writer (Ok x)
+said_again r texts all says =
+    record { texts = texts; are_all = all; outcome = (r.outcome.0, says, r.outcome.2) }
 
 -- ---- the task of a request
 
@@ -150,101 +158,74 @@ module _ (problem : List ℕ) (machines : Option ℕ) (layout : Layout) (jobs : 
       text_is : (text : List ℕ) → IsTextOf reader.before text → text ≡ own
       text_is text all = subst (λ known. IsTextOf known text) before all
 
-      solving_again : {A : Type 0} (u : Unit {0}) → IsRunOf {A = A} (asked (InWt jobs m)) reader writer (Ok u)
-          → IsRunOf {A = A} (asked (InWt jobs k)) in_file writer (Ok u)
-      solving_again u r = record {
-        text = file;
-        is_all = refl;
-        outcome = (
-          r.outcome.0,
-          answered_again r.outcome.0
-              (subst (λ text. IsAnswered (asked (InWt jobs m)) text r.outcome.0)
-              (text_is r.text r.is_all) r.outcome.1),
-          r.outcome.2,
-        );
-      }
+      solving_again : {A : Type 0} (u : Unit {0})
+          → IsOutcome {A = A} (solve_run (asked (InWt jobs m)) reader) writer (Ok u)
+          → IsOutcome {A = A} (solve_run (asked (InWt jobs k)) in_file) writer (Ok u)
+      solving_again u r = said_again r file refl
+          (answered_again r.outcome.0
+          (subst (λ text. IsAnswered (asked (InWt jobs m)) text r.outcome.0)
+          (text_is r.texts r.are_all) r.outcome.1))
 
-      bounding_again : {A : Type 0} (u : Unit {0}) → IsBoundingOf {A = A} (asked (InWt jobs m)) reader writer (Ok u)
-          → IsBoundingOf {A = A} (asked (InWt jobs k)) in_file writer (Ok u)
+      bounding_again : {A : Type 0} (u : Unit {0})
+          → IsOutcome {A = A} (bound_run A (asked (InWt jobs m)) reader) writer (Ok u)
+          → IsOutcome {A = A} (bound_run A (asked (InWt jobs k)) in_file) writer (Ok u)
       bounding_again u r =
-          let bounds = r.outcome.1.1 in
-          record {
-            text = file;
-            is_all = refl;
-            outcome = (
-              r.outcome.0,
-              (
-                r.outcome.1.0,
-                record {
-                  task = bounds.task;
-                  meant = problem_same ∙ ap (problem_task_for (asked (InWt jobs m)))
-                      (sym (text_is r.text r.is_all)) ∙ bounds.meant;
-                  feasible = bounds.feasible;
-                  is = bounds.is;
-                  written = bounds.written;
-                },
-              ),
-              r.outcome.2,
-            );
-          }
+          let (found, bounds) = r.outcome.1 in
+          said_again r file refl (
+            found,
+            record {
+              task = bounds.task;
+              meant = problem_same ∙ ap (problem_task_for (asked (InWt jobs m)))
+                  (sym (text_is r.texts r.are_all)) ∙ bounds.meant;
+              feasible = bounds.feasible;
+              is = bounds.is;
+              written = bounds.written;
+            },
+          )
 
       evaluating_again : {A : Type 0} (detail : Detail) (standing : Standing)
-          → IsEvaluationOf {A = A} detail (asked (InWt jobs m)) reader other writer (Ok standing)
-          → IsEvaluationOf {A = A} detail (asked (InWt jobs k)) in_file other writer (Ok standing)
+          → IsOutcome {A = A} (evaluation_run detail (asked (InWt jobs m)) reader other) writer (Ok standing)
+          → IsOutcome {A = A} (evaluation_run detail (asked (InWt jobs k)) in_file other) writer (Ok standing)
       evaluating_again detail standing r =
-          let e = r.outcome.1 in
-          record {
-            text = file;
-            is_all = refl;
-            answer_text = r.answer_text;
-            is_whole_answer = r.is_whole_answer;
-            outcome = (
-              r.outcome.0,
-              record {
-                problem = e.problem;
-                asked = e.asked;
-                task = e.task;
-                meant = task_same ∙ ap (task_for (asked (InWt jobs m)))
-                    (sym (text_is r.text r.is_all)) ∙ e.meant;
-                sheet = e.sheet;
-                said = e.said;
-                evaluation = e.evaluation;
-                standing = e.standing;
-                gap_is = e.gap_is;
-                ends = e.ends;
-              },
-              r.outcome.2,
-              r.outcome.3,
-            );
-          }
+          let (it, e, same, written) = r.outcome.1 in
+          said_again r (file, r.texts.1) (refl, r.are_all.1) (
+            it,
+            record {
+              problem = e.problem;
+              asked = e.asked;
+              task = e.task;
+              meant = task_same ∙ ap (task_for (asked (InWt jobs m)))
+                  (sym (text_is r.texts.0 r.are_all.0)) ∙ e.meant;
+              sheet = e.sheet;
+              said = e.said;
+              evaluation = e.evaluation;
+              standing = e.standing;
+              gap_is = e.gap_is;
+              ends = e.ends;
+            },
+            same,
+            written,
+          )
 
       assessing_again : {A : Type 0} (assessed : Assessed)
-          → IsAssessmentOf {A = A} None (asked (InWt jobs m)) reader other writer (Ok assessed)
-          → IsAssessmentOf {A = A} None (asked (InWt jobs k)) in_file other writer (Ok assessed)
+          → IsOutcome {A = A} (assessment_run A None (asked (InWt jobs m)) reader other) writer (Ok assessed)
+          → IsOutcome {A = A} (assessment_run A None (asked (InWt jobs k)) in_file other) writer (Ok assessed)
       assessing_again assessed r =
-          let a = r.outcome.2 in
-          record {
-            text = file;
-            is_all = refl;
-            answer_text = r.answer_text;
-            is_whole_answer = r.is_whole_answer;
-            outcome = (
-              r.outcome.0,
-              r.outcome.1,
-              record {
-                task = a.task;
-                meant = problem_same ∙ ap (problem_task_for (asked (InWt jobs m)))
-                    (sym (text_is r.text r.is_all)) ∙ a.meant;
-                feasible = a.feasible;
-                sheet = a.sheet;
-                said = a.said;
-                is = a.is;
-                written = a.written;
-              },
-              r.outcome.3,
-              r.outcome.4,
-            );
-          }
+          let (it, a, same) = r.outcome.1 in
+          said_again r (file, r.texts.1) (refl, r.are_all.1) (
+            it,
+            record {
+              task = a.task;
+              meant = problem_same ∙ ap (problem_task_for (asked (InWt jobs m)))
+                  (sym (text_is r.texts.0 r.are_all.0)) ∙ a.meant;
+              feasible = a.feasible;
+              sheet = a.sheet;
+              said = a.said;
+              is = a.is;
+              written = a.written;
+            },
+            same,
+          )
 
       rating_again : {A : Type 0} (detail : Detail) (standing : Standing)
           → IsRatingOf {A = A} detail (asked (InWt jobs m)) reader other writer (Ok standing)
@@ -255,10 +236,10 @@ module _ (problem : List ℕ) (machines : Option ℕ) (layout : Layout) (jobs : 
       }
         where
           by : (run : Result Assessed (RunFault A))
-              → IsAssessmentOf None (asked (InWt jobs m)) reader other writer run
+              → IsOutcome (assessment_run A None (asked (InWt jobs m)) reader other) writer run
               → Ok standing ≡ rated run
               → (run : Result Assessed (RunFault A))
-              × IsAssessmentOf None (asked (InWt jobs k)) in_file other writer run
+              × IsOutcome (assessment_run A None (asked (InWt jobs k)) in_file other) writer run
               × (Ok standing ≡ rated run)
           by (Ok assessed) is same = (Ok assessed, assessing_again assessed is, same)
           by (Err fault) is same = cc
@@ -272,28 +253,20 @@ module _ (problem : List ℕ) (machines : Option ℕ) (layout : Layout) (jobs : 
           (is.0, problem_same ∙ is.1, is.2, is.3)
 
       orders_again : {A : Type 0} (form : OrderForm) (told : OrdersRated)
-          → IsOrdersRunOf {A = A} form None (asked (InWt jobs m)) None reader other writer (Ok told)
-          → IsOrdersRunOf {A = A} form None (asked (InWt jobs k)) None in_file other writer (Ok told)
+          → IsOutcome {A = A} (orders_run A form None (asked (InWt jobs m)) None reader other) writer (Ok told)
+          → IsOutcome {A = A} (orders_run A form None (asked (InWt jobs k)) None in_file other) writer (Ok told)
       orders_again form told r =
-          let is = r.outcome.2 in
-          record {
-            text = file;
-            is_all = refl;
-            orders_text = r.orders_text;
-            is_whole = r.is_whole;
-            outcome = (
-              r.outcome.0,
-              r.outcome.1,
-              record {
-                measure = measure_again (detail_of form) r.outcome.1
-                    (subst (λ text. IsMeasure (detail_of form) None (asked (InWt jobs m)) text r.outcome.1)
-                    (text_is r.text r.is_all) is.measure);
-                others_are = is.others_are;
-                rated_is = is.rated_is;
-              },
-              r.outcome.3,
-            );
-          }
+          let (by, is) = r.outcome.1 in
+          said_again r (file, r.texts.1) (refl, r.are_all.1) (
+            by,
+            record {
+              measure = measure_again (detail_of form) by
+                  (subst (λ text. IsMeasure (detail_of form) None (asked (InWt jobs m)) text by)
+                  (text_is r.texts.0 r.are_all.0) is.measure);
+              others_are = is.others_are;
+              rated_is = is.rated_is;
+            },
+          )
 
   -- a run that gives an answer read an instance
   measure_has : {A : Type 0} (detail : Detail) (k : ℕ) (text : List ℕ) (by : Measure A)
@@ -307,15 +280,17 @@ module _ (problem : List ℕ) (machines : Option ℕ) (layout : Layout) (jobs : 
     all_is : (all : List ℕ) → IsTextOf reader.before all → all ≡ text
     all_is all is = subst (λ known. IsTextOf known all) before is
 
-    solving_has : {A : Type 0} (u : Unit {0}) → IsRunOf {A = A} (asked (InWt jobs k)) reader writer (Ok u)
+    solving_has : {A : Type 0} (u : Unit {0})
+        → IsOutcome {A = A} (solve_run (asked (InWt jobs k)) reader) writer (Ok u)
         → (i : InstanceData) × (weighted_tardiness jobs k text ≡ Ok i)
     solving_has u r = task_has k text r.outcome.1.0.task
-        (ap (task_for (asked (InWt jobs k))) (sym (all_is r.text r.is_all)) ∙ r.outcome.1.0.meant)
+        (ap (task_for (asked (InWt jobs k))) (sym (all_is r.texts r.are_all)) ∙ r.outcome.1.0.meant)
 
-    bounding_has : {A : Type 0} (u : Unit {0}) → IsBoundingOf {A = A} (asked (InWt jobs k)) reader writer (Ok u)
+    bounding_has : {A : Type 0} (u : Unit {0})
+        → IsOutcome {A = A} (bound_run A (asked (InWt jobs k)) reader) writer (Ok u)
         → (i : InstanceData) × (weighted_tardiness jobs k text ≡ Ok i)
     bounding_has u r = problem_has k text r.outcome.1.1.task
-        (ap (problem_task_for (asked (InWt jobs k))) (sym (all_is r.text r.is_all))
+        (ap (problem_task_for (asked (InWt jobs k))) (sym (all_is r.texts r.are_all))
         ∙ r.outcome.1.1.meant)
 
     rating_has : {A : Type 0} (detail : Detail) (standing : Standing)
@@ -324,27 +299,30 @@ module _ (problem : List ℕ) (machines : Option ℕ) (layout : Layout) (jobs : 
     rating_has {A = A} detail standing r = by (is_solved problem) refl
       where
         assessed : (run : Result Assessed (RunFault A))
-            → IsAssessmentOf None (asked (InWt jobs k)) reader other writer run
+            → IsOutcome (assessment_run A None (asked (InWt jobs k)) reader other) writer run
             → Ok standing ≡ rated run → (i : InstanceData) × (weighted_tardiness jobs k text ≡ Ok i)
-        assessed (Ok found) is same = problem_has k text is.outcome.2.task
-            (ap (problem_task_for (asked (InWt jobs k))) (sym (all_is is.text is.is_all))
-            ∙ is.outcome.2.meant)
+        assessed (Ok found) is same =
+            let a = is.outcome.1.1 in
+            problem_has k text a.task
+            (ap (problem_task_for (asked (InWt jobs k))) (sym (all_is is.texts.0 is.are_all.0)) ∙ a.meant)
         assessed (Err fault) is same = cc
 
         by : (b : Bool) → is_solved problem ≡ b
             → (i : InstanceData) × (weighted_tardiness jobs k text ≡ Ok i)
-        by true e = let is = r.solved e in
-            task_has k text is.outcome.1.task
-            (ap (task_for (asked (InWt jobs k))) (sym (all_is is.text is.is_all)) ∙ is.outcome.1.meant)
+        by true e =
+            let is = r.solved e in
+            let it = is.outcome.1.1 in
+            task_has k text it.task
+            (ap (task_for (asked (InWt jobs k))) (sym (all_is is.texts.0 is.are_all.0)) ∙ it.meant)
         by false e = let u = r.unsolved e in assessed u.0 u.1 u.2
 
     orders_has : {A : Type 0} (form : OrderForm) (told : OrdersRated)
-        → IsOrdersRunOf {A = A} form None (asked (InWt jobs k)) None reader other writer (Ok told)
+        → IsOutcome {A = A} (orders_run A form None (asked (InWt jobs k)) None reader other) writer (Ok told)
         → (i : InstanceData) × (weighted_tardiness jobs k text ≡ Ok i)
     orders_has form told r =
-        measure_has (detail_of form) k text r.outcome.1
-        (subst (λ all. IsMeasure (detail_of form) None (asked (InWt jobs k)) all r.outcome.1)
-        (all_is r.text r.is_all) r.outcome.2.measure)
+        measure_has (detail_of form) k text r.outcome.1.0
+        (subst (λ all. IsMeasure (detail_of form) None (asked (InWt jobs k)) all r.outcome.1.0)
+        (all_is r.texts.0 r.are_all.0) r.outcome.1.1.measure)
 
 -- ---- a status
 
@@ -470,17 +448,17 @@ module _ (jobs m : ℕ) (status : ℕ) (told : has_told status ≡ true) (writer
 
     told_solving : (reader : DeviceUse) → EndsSolving Global (requested options layout) reader writer
         says status
-        → (u : Unit {0}) × IsRunOf {A = Global} (request (InWt jobs m)) reader writer (Ok u)
+        → (u : Unit {0}) × IsOutcome {A = Global} (solve_run (request (InWt jobs m)) reader) writer (Ok u)
         × (status ≡ 0) × says []
     told_solving reader e = by e.run e.outcome e.ends e.said
       where
-        by : (run : Result (Unit {0}) (RunFault Global)) → IsRunOf (requested options layout) reader writer run
+        by : (run : Result (Unit {0}) (RunFault Global)) → IsOutcome (solve_run (requested options layout) reader) writer run
             → status ≡ status_of_run run → says (line_of run)
-            → (u : Unit {0}) × IsRunOf {A = Global} (request (InWt jobs m)) reader writer (Ok u)
+            → (u : Unit {0}) × IsOutcome {A = Global} (solve_run (request (InWt jobs m)) reader) writer (Ok u)
             × (status ≡ 0) × says []
         by (Ok u) outcome ends said = (
           u,
-          subst (λ f. IsRunOf {A = Global} (request f) reader writer (Ok u)) form_is outcome,
+          subst (λ f. IsOutcome {A = Global} (solve_run (request f) reader) writer (Ok u)) form_is outcome,
           ends,
           said,
         )
@@ -489,18 +467,18 @@ module _ (jobs m : ℕ) (status : ℕ) (told : has_told status ≡ true) (writer
 
     told_bounding : (reader : DeviceUse) → EndsBounding Global (requested options layout) reader writer
         says status
-        → (u : Unit {0}) × IsBoundingOf {A = Global} (request (InWt jobs m)) reader writer (Ok u)
+        → (u : Unit {0}) × IsOutcome {A = Global} (bound_run Global (request (InWt jobs m)) reader) writer (Ok u)
         × (status ≡ 0) × says []
     told_bounding reader e = by e.run e.outcome e.ends e.said
       where
         by : (run : Result (Unit {0}) (RunFault Global))
-            → IsBoundingOf (requested options layout) reader writer run
+            → IsOutcome (bound_run Global (requested options layout) reader) writer run
             → status ≡ status_of_run run → says (line_of run)
-            → (u : Unit {0}) × IsBoundingOf {A = Global} (request (InWt jobs m)) reader writer (Ok u)
+            → (u : Unit {0}) × IsOutcome {A = Global} (bound_run Global (request (InWt jobs m)) reader) writer (Ok u)
             × (status ≡ 0) × says []
         by (Ok u) outcome ends said = (
           u,
-          subst (λ f. IsBoundingOf {A = Global} (request f) reader writer (Ok u)) form_is outcome,
+          subst (λ f. IsOutcome {A = Global} (bound_run Global (request f) reader) writer (Ok u)) form_is outcome,
           ends,
           said,
         )
@@ -532,19 +510,19 @@ module _ (jobs m : ℕ) (status : ℕ) (told : has_told status ≡ true) (writer
     told_orders : (form : OrderForm) (reader other : DeviceUse)
         → EndsRating Global form None (requested options layout) None reader other writer says status
         → (rating : OrdersRated)
-        × IsOrdersRunOf {A = Global} form None (request (InWt jobs m)) None reader other writer (Ok rating)
+        × IsOutcome {A = Global} (orders_run Global form None (request (InWt jobs m)) None reader other) writer (Ok rating)
         × (status ≡ status_of_rating {A = Global} (Ok rating)) × says []
     told_orders form reader other e = by e.run e.outcome e.ends e.said
       where
         by : (run : Result OrdersRated (RunFault Global))
-            → IsOrdersRunOf form None (requested options layout) None reader other writer run
+            → IsOutcome (orders_run Global form None (requested options layout) None reader other) writer run
             → status ≡ status_of_rating run → says (line_of run)
             → (rating : OrdersRated)
-            × IsOrdersRunOf {A = Global} form None (request (InWt jobs m)) None reader other writer (Ok rating)
+            × IsOutcome {A = Global} (orders_run Global form None (request (InWt jobs m)) None reader other) writer (Ok rating)
             × (status ≡ status_of_rating {A = Global} (Ok rating)) × says []
         by (Ok rating) outcome ends said = (
           rating,
-          subst (λ f. IsOrdersRunOf {A = Global} form None (request f) None reader other writer (Ok rating)) form_is outcome,
+          subst (λ f. IsOutcome {A = Global} (orders_run Global form None (request f) None reader other) writer (Ok rating)) form_is outcome,
           ends,
           said,
         )

@@ -1,17 +1,15 @@
 -- What a run over an instance and orders leaves behind.
-use Rattle.std.specs.Prelude.{◌≡◌, ℕ, ◌<◌, ◌⊎◌, Bool, true, List, length, Option, is_some, Result, Ok, Err, IsTrue, IsFalse, IsOk}
-use Rattle.std.specs.Io.KnownBytes.{Appends}
+use Rattle.std.specs.Prelude.{◌≡◌, ℕ, ◌<◌, ◌⊎◌, Bool, true, List, length, Option, is_some, Ok, Err, IsTrue, IsFalse, IsOk}
 use Rattle.tf_model.specs.Limit.{most_bytes}
 use Rattle.tf_text.specs.Counted.{DeviceUse}
 use Rattle.tf_text.specs.Input.{IsTextOf}
 use Rattle.tf_text.specs.declared.answer.fault.AnswerFault.{AnswerFault}
 use Rattle.tf_text.specs.declared.answer.fault.AnswerFault.TheVariants as answers
-use Rattle.tf_engine.specs.declared.fault.RunFault.{RunFault}
-use Rattle.tf_engine.specs.Faults.{Refused, ByCycle, ByAnswer, stop_of}
+use Rattle.tf_engine.specs.Faults.{Refused, ByCycle, ByAnswer}
 use Rattle.tf_engine.specs.Headline.{IsCyclic}
 use Rattle.tf_engine.specs.RequestData.{RequestData}
 use Rattle.tf_engine.specs.Refusal.{task_for}
-use Rattle.tf_engine.specs.Runs.{Leaves}
+use Rattle.tf_engine.specs.Runs.{Run}
 use Rattle.tf_posed.specs.ProblemData.{ProblemData}
 use Rattle.tf_bound_text.specs.BoundSheetData.{BoundSheetData}
 use Rattle.tf_bounding.specs.Feasible.{IsCyclicTask}
@@ -53,12 +51,6 @@ pub record IsRated {A : Type 0} (form : OrderForm) (offer : Option BoundSheetDat
   pub others_are : others_of m ≡ others
   pub rated_is : AreRated form m orders out rated
 
-abbrev pub SaysRated : Type 0 → OrderForm → Option BoundSheetData → RequestData → Option PosedData
-    → List ℕ → List ℕ → List ℕ → Type 0
-SaysRated A form offer request others text orders out =
-    (rated : OrdersRated) × (m : Measure A)
-    × IsRated form offer request others text orders out rated m
-
 -- a line of the orders or pieces is malformed
 pub record IsBadLine {A : Type 0} (form : OrderForm) (offer : Option BoundSheetData)
     (request : RequestData) (text orders : List ℕ) (refused : Refused) (m : Measure A) : Type 0 where
@@ -84,28 +76,13 @@ abbrev pub HasOrderReaderFailed : Bool → RequestData → List ℕ → DeviceUs
 HasOrderReaderFailed bounded request text instance orders =
     (instance.failed ≡ true) ⊎ (IsPosed bounded request text × (orders.failed ≡ true))
 
--- All of it is written, or the one refusal is given. Where memory was wanting there is neither.
--- Nothing was written then, nor after a refusal or where a reader failed; where the writer failed a
--- prefix was.
-abbrev pub OrdersOutcome : {A : Type 0} → OrderForm → Option BoundSheetData → RequestData
-    → Option PosedData → List ℕ → List ℕ → DeviceUse → DeviceUse → DeviceUse
-    → Result OrdersRated (RunFault A) → Type 0
-OrdersOutcome {A = A} form offer request others text orders instance reader writer (Ok rated) =
-    (out : List ℕ) × (m : Measure A) × IsRated form offer request others text orders out rated m
-    × Appends writer.before writer.after out
-OrdersOutcome {A = A} form offer request others text orders instance reader writer (Err e) =
-    Leaves (SaysRated A form offer request others text orders)
-    (IsRefusedOrders A form offer request text orders)
-    (HasOrderReaderFailed (is_some offer) request text instance reader) writer (stop_of e)
-
--- The outcome is that of two texts, which are all bytes of the readers up to their ends where they
--- are known, and of what the text of a bound offers, where there is one.
-pub record IsOrdersRunOf {A : Type 0} (form : OrderForm) (offer : Option BoundSheetData)
-    (request : RequestData) (others : Option PosedData) (instance orders writer : DeviceUse)
-    (result : Result OrdersRated (RunFault A)) : Type 0 where
-  pub text : List ℕ
-  pub is_all : IsTextOf instance.before text
-  pub orders_text : List ℕ
-  pub is_whole : IsTextOf orders.before orders_text
-  pub outcome : OrdersOutcome form offer request others text orders_text instance orders writer
-      result
+-- a run over an instance and orders, which writes how good the schedules are
+abbrev pub orders_run : Type 0 → OrderForm → Option BoundSheetData → RequestData → Option PosedData
+    → DeviceUse → DeviceUse → Run (List ℕ × List ℕ) OrdersRated
+orders_run A form offer request others instance orders = record {
+  Over = λ texts. IsTextOf instance.before texts.0 × IsTextOf orders.before texts.1;
+  Says = λ texts rated out. (m : Measure A)
+      × IsRated form offer request others texts.0 texts.1 out rated m;
+  IsRefused = λ texts refused. IsRefusedOrders A form offer request texts.0 texts.1 refused;
+  ReaderFailed = λ texts. HasOrderReaderFailed (is_some offer) request texts.0 instance orders;
+}

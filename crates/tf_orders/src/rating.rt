@@ -32,6 +32,7 @@ use tf_check::certificate::Certificate;
 use tf_check::judgement::{Fit, Judgement, judge_answer};
 use tf_check::load::Load;
 use tf_engine::fault::RunFault;
+use tf_engine::output::Output;
 use tf_evaluate::evaluate::judge_pieces;
 use tf_evaluate::evaluation::Evaluation;
 use tf_evaluate::step::Step;
@@ -44,22 +45,15 @@ use tf_sequencing::rule::Rule;
 use tf_text::answer::fault::AnswerFault;
 use tf_words::line::{Line, Lines};
 
-/// What is written of orders, and what they come to.
-#[derive(Drop)]
-pub(crate) struct Rating<A: Allocator> {
-    pub text: Vec<u8, A>,
-    pub rated: OrdersRated,
-}
-
 /// Rates the orders or the pieces of a text. The first malformed line is refused.
 pub(crate) fn rating_of<A: Allocator + Copy>(
     alloc: A,
     form: OrderForm,
     measure: Measure<A>,
     text: &[u8],
-) -> Result<Rating<A>, RunFault<A>>
+) -> Result<Output<OrdersRated, A>, RunFault<A>>
     requires { length text.now ≤ most_bytes }
-    ensures { MatchResult result (λ r. AreRated form measure text.now r.text.items r.rated)
+    ensures { MatchResult result (λ r. AreRated form measure text.now r.text.items r.returned)
         (λ e. IsUnrated form measure text.now (stop_of e)) }
 {
     match form {
@@ -68,16 +62,16 @@ pub(crate) fn rating_of<A: Allocator + Copy>(
         OrderForm::Pieces(_) => pieces_rating(alloc, measure, text),
         OrderForm::Lines { goes_on } => {
             let text = rows_of(alloc, &measure, goes_on, text)?;
-            Ok(Rating {
+            Ok(Output {
                 text,
-                rated: OrdersRated::Lines,
+                returned: OrdersRated::Lines,
             })
         }
         OrderForm::Numbered { goes_on } => {
             let text = numbered_rows_of(alloc, &measure, goes_on, text)?;
-            Ok(Rating {
+            Ok(Output {
                 text,
-                rated: OrdersRated::Lines,
+                returned: OrdersRated::Lines,
             })
         }
     }
@@ -88,9 +82,9 @@ fn single_rating<A: Allocator + Copy>(
     alloc: A,
     measure: Measure<A>,
     text: &[u8],
-) -> Result<Rating<A>, RunFault<A>>
+) -> Result<Output<OrdersRated, A>, RunFault<A>>
     ensures { (detail : Detail) → MatchResult result
-        (λ r. AreRated (OrderForm.Single detail) measure text.now r.text.items r.rated)
+        (λ r. AreRated (OrderForm.Single detail) measure text.now r.text.items r.returned)
         (λ e. IsUnrated (OrderForm.Single detail) measure text.now (stop_of e)) }
 {
     let Some(pieces) = scheduled(alloc, &measure, text)? else {
@@ -106,9 +100,9 @@ fn ruled_rating<A: Allocator + Copy>(
     measure: Measure<A>,
     rule: Rule,
     text: &[u8],
-) -> Result<Rating<A>, RunFault<A>>
+) -> Result<Output<OrdersRated, A>, RunFault<A>>
     ensures { (detail : Detail) → MatchResult result
-        (λ r. AreRated (OrderForm.Ruled rule detail) measure text.now r.text.items r.rated)
+        (λ r. AreRated (OrderForm.Ruled rule detail) measure text.now r.text.items r.returned)
         (λ e. IsUnrated (OrderForm.Ruled rule detail) measure text.now (stop_of e)) }
 {
     let pieces = ruled(alloc, &measure, rule)?;
@@ -131,10 +125,10 @@ fn pieces_rating<A: Allocator + Copy>(
     alloc: A,
     measure: Measure<A>,
     text: &[u8],
-) -> Result<Rating<A>, RunFault<A>>
+) -> Result<Output<OrdersRated, A>, RunFault<A>>
     requires { length text.now ≤ most_bytes }
     ensures { (detail : Detail) → MatchResult result
-        (λ r. AreRated (OrderForm.Pieces detail) measure text.now r.text.items r.rated)
+        (λ r. AreRated (OrderForm.Pieces detail) measure text.now r.text.items r.returned)
         (λ e. IsUnrated (OrderForm.Pieces detail) measure text.now (stop_of e)) }
 {
     let pieces = drawn(alloc, text)?;
@@ -147,8 +141,8 @@ fn evaluated<A: Allocator + Copy>(
     alloc: A,
     measure: Measure<A>,
     pieces: Vec<Piece, A>,
-) -> Result<Rating<A>, OutOfMemory>
-    ensures { IfOk result (λ r. IsEvaluatedAs measure pieces.items r.text.items r.rated) }
+) -> Result<Output<OrdersRated, A>, OutOfMemory>
+    ensures { IfOk result (λ r. IsEvaluatedAs measure pieces.items r.text.items r.returned) }
 {
     match measure {
         Measure::Optimum {
@@ -161,8 +155,8 @@ fn evaluated<A: Allocator + Copy>(
             let measures = measured_by(alloc, &others, &pieces)?;
             let evaluation = evaluation_of(alloc, problem, &task, best, steps, pieces)?;
             let text = with_measures(evaluation_bytes(alloc, &evaluation)?, &measures)?;
-            let rated = OrdersRated::Single(evaluation.standing());
-            Ok(Rating { text, rated })
+            let returned = OrdersRated::Single(evaluation.standing());
+            Ok(Output { text, returned })
         }
         Measure::Bound {
             task,
@@ -172,8 +166,8 @@ fn evaluated<A: Allocator + Copy>(
             let measures = measured_by(alloc, &others, &pieces)?;
             let assessment = assessment_of(alloc, &task, weighed, pieces)?;
             let text = with_measures(assessment_bytes(alloc, &task, &assessment)?, &measures)?;
-            let rated = OrdersRated::Single(standing_as(assessment.assessed()));
-            Ok(Rating { text, rated })
+            let returned = OrdersRated::Single(standing_as(assessment.assessed()));
+            Ok(Output { text, returned })
         }
     }
 }

@@ -1,19 +1,22 @@
 //! Rating the schedules of orders, from bytes to bytes.
 ghost use Rattle.std.specs.Prelude.{◌≡◌, is_some};
 ghost use Rattle.tf_text.specs.Counted.{use_of};
-ghost use Rattle.tf_engine.specs.Devices.{LeavesCase};
+ghost use Rattle.tf_engine.specs.Devices.{LeavesBoth, LeavesCase};
 ghost use Rattle.tf_engine.specs.Faults.{end_of};
+ghost use Rattle.tf_engine.specs.Outputs.{MakesOutput};
+ghost use Rattle.tf_engine.specs.Runs.{IsOutcome};
 ghost use Rattle.tf_orders.specs.Measuring.{detail_of, measured_problem};
-ghost use Rattle.tf_orders.specs.RunOrders.{IsOrdersRunOf};
+ghost use Rattle.tf_orders.specs.RunOrders.{orders_run};
 
 use crate::case_read::{OrderCase, order_case_read};
 use crate::measure::measured;
-use crate::rating::{Rating, rating_of};
+use crate::rating::rating_of;
 use std::alloc::{Allocator, Global};
 use std::io::{Read, Write};
 use tf_assess::measures::PosedInstance;
 use tf_assess::offered::Aids;
 use tf_engine::fault::RunFault;
+use tf_engine::output::{Output, write_output};
 use tf_engine::request::Request;
 use tf_evaluate::evaluation::{Detail, Standing};
 use tf_search::effort::Progress;
@@ -110,15 +113,37 @@ pub fn run_orders<
     orders: &mut Counted<S>,
     writer: &mut Counted<W>,
 ) -> Result<OrdersRated, RunFault<A>>
-    ensures outcome { IsOrdersRunOf asked.entry.form measuring.aids.offered
+    ensures outcome { IsOutcome (orders_run A asked.entry.form measuring.aids.offered
         asked.entry.request.now measuring.others
         (use_of R.remaining instance.old instance.new)
-        (use_of S.remaining orders.old orders.new) (use_of W.contents writer.old writer.new)
+        (use_of S.remaining orders.old orders.new)) (use_of W.contents writer.old writer.new)
         result }
     ensures devices { LeavesCase
         (measured_problem (is_some measuring.aids.offered) asked.entry.request.now.problem)
         R.remaining instance.old instance.new S.remaining orders.old orders.new writer.old writer.new
         (end_of result) }
+{
+    write_output(
+        writer,
+        orders_output(alloc, asked, measuring, instance, orders),
+    )
+}
+
+// What is written of the orders, and what they come to.
+fn orders_output<A: Allocator + Copy, B: Allocator, P: Progress + Drop, R: Read, S: Read>(
+    alloc: A,
+    asked: OrdersRequest<'_, B>,
+    measuring: Measuring<P, A>,
+    instance: &mut Counted<R>,
+    orders: &mut Counted<S>,
+) -> Result<Output<OrdersRated, A>, RunFault<A>>
+    ensures { MakesOutput (orders_run A asked.entry.form measuring.aids.offered
+        asked.entry.request.now measuring.others
+        (use_of R.remaining instance.old instance.new)
+        (use_of S.remaining orders.old orders.new))
+        (LeavesBoth
+        (measured_problem (is_some measuring.aids.offered) asked.entry.request.now.problem)
+        R.remaining instance.old instance.new S.remaining orders.old orders.new) result }
 {
     let Measuring { aids, others } = measuring;
     let bounded = aids.offered.is_some();
@@ -126,8 +151,5 @@ pub fn run_orders<
     let OrderCase { posed, text } = case;
     let measure = measured(alloc, posed, aids, asked.form.detail())?;
     let measure = measure.with_others(others);
-    let rating = rating_of(alloc, asked.form, measure, text.as_slice())?;
-    let Rating { text, rated } = rating;
-    writer.push_all(text.as_slice())?;
-    Ok(rated)
+    rating_of(alloc, asked.form, measure, text.as_slice())
 }

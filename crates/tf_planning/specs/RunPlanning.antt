@@ -1,16 +1,14 @@
 -- What a run that plans a problem leaves behind.
-use Rattle.std.specs.Prelude.{◌≡◌, ◌⊎◌, ℕ, ℤ, true, List, length, Result, Ok, Err}
-use Rattle.std.specs.Io.KnownBytes.{Appends}
+use Rattle.std.specs.Prelude.{◌≡◌, ◌⊎◌, ℕ, ℤ, true, List, length, Ok, Err}
 use Rattle.tf_text.specs.Counted.{DeviceUse}
 use Rattle.tf_text.specs.Input.{IsTextOf}
 use Rattle.tf_posed.specs.ProblemData.{ProblemData}
 use Rattle.tf_posed.specs.ProblemCost.{IsProblemBest}
 use Rattle.tf_schedule.specs.declared.piece.Piece.{Piece}
 use Rattle.tf_schedule.specs.Drawing.{drawing}
-use Rattle.tf_engine.specs.declared.fault.RunFault.{RunFault}
-use Rattle.tf_engine.specs.Faults.{Refused, stop_of}
+use Rattle.tf_engine.specs.Faults.{Refused}
 use Rattle.tf_engine.specs.RequestData.{RequestData}
-use Rattle.tf_engine.specs.Runs.{Leaves}
+use Rattle.tf_engine.specs.Runs.{Run}
 use Rattle.tf_search.specs.declared.strongest.Found.{Found}
 use Rattle.tf_search.specs.Strongest.{IsFound}
 use Rattle.tf_bounding.specs.RunBounding.{problem_task_for}
@@ -39,9 +37,6 @@ pub record Plans (A : Type 0) (request : RequestData) (text : List ℕ) (planned
   pub meant : problem_task_for request text ≡ Ok task
   pub is : IsPlanOf A task planned out
 
-abbrev pub SaysPlan : Type 0 → RequestData → List ℕ → List ℕ → Type 0
-SaysPlan A request text out = (planned : Planned) × Plans A request text planned out
-
 -- the refusal is the one of the definitions, or nothing else is refused and the task has no plan
 abbrev pub IsRefusedPlan : RequestData → List ℕ → Refused → Type 0
 IsRefusedPlan request text refused =
@@ -49,21 +44,11 @@ IsRefusedPlan request text refused =
     ⊎ ((task : ProblemData) × (problem_task_for request text ≡ Ok task)
     × IsUnplannable task refused)
 
--- A plan is written, or the one refusal is given. Where memory was wanting there is neither. Nothing
--- was written then, nor after a refusal or where the reader failed; where the writer failed a prefix
--- of the text was.
-abbrev pub PlanningOutcome : {A : Type 0} → RequestData → List ℕ → DeviceUse → DeviceUse
-    → Result Planned (RunFault A) → Type 0
-PlanningOutcome {A = A} request text reader writer (Ok planned) =
-    (out : List ℕ) × Plans A request text planned out × Appends writer.before writer.after out
-PlanningOutcome {A = A} request text reader writer (Err e) =
-    Leaves (SaysPlan A request text) (IsRefusedPlan request text) (reader.failed ≡ true) writer
-    (stop_of e)
-
--- The outcome is that of a text, which is all bytes of the reader up to its end where they are
--- known.
-pub record IsPlanningOf {A : Type 0} (request : RequestData) (reader writer : DeviceUse)
-    (result : Result Planned (RunFault A)) : Type 0 where
-  pub text : List ℕ
-  pub is_all : IsTextOf reader.before text
-  pub outcome : PlanningOutcome request text reader writer result
+-- a run over an instance, which writes a plan and returns whether it is optimal
+abbrev pub plan_run : Type 0 → RequestData → DeviceUse → Run (List ℕ) Planned
+plan_run A request reader = record {
+  Over = λ text. IsTextOf reader.before text;
+  Says = λ text planned out. Plans A request text planned out;
+  IsRefused = λ text refused. IsRefusedPlan request text refused;
+  ReaderFailed = λ text. reader.failed ≡ true;
+}

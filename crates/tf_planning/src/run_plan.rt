@@ -1,11 +1,14 @@
 //! A plan of a problem and an instance, from bytes to bytes.
 ghost use Rattle.std.specs.Prelude.{MatchResult};
 ghost use Rattle.tf_text.specs.Counted.{inner_of, use_of};
-ghost use Rattle.tf_engine.specs.Devices.{LeavesRun};
+ghost use Rattle.tf_engine.specs.Devices.{LeavesInstance, LeavesRun};
 ghost use Rattle.tf_engine.specs.Faults.{end_of, stop_of};
+ghost use Rattle.tf_engine.specs.Outputs.{Ends, Makes};
+ghost use Rattle.tf_engine.specs.Runs.{IsOutcome};
 ghost use Rattle.tf_bounding.specs.RunBounding.{problem_in};
 ghost use Rattle.tf_planning.specs.Planning.{StopsPlanning};
-ghost use Rattle.tf_planning.specs.RunPlanning.{IsPlanOf, IsPlanningOf};
+ghost use Rattle.tf_planning.specs.declared.run_plan.Printed.{Printed};
+ghost use Rattle.tf_planning.specs.RunPlanning.{IsPlanOf, Plans, plan_run};
 
 use crate::made::made_for;
 use crate::progress::PlanProgress;
@@ -38,15 +41,13 @@ pub fn run_plan<
     reader: &mut Counted<R>,
     writer: &mut Counted<W>,
 ) -> Result<Planned, RunFault<A>>
-    ensures outcome { IsPlanningOf request.now (use_of R.remaining reader.old reader.new)
+    ensures outcome { IsOutcome (plan_run A request.now
+        (use_of R.remaining reader.old reader.new))
         (use_of W.contents writer.old writer.new) result }
     ensures devices { LeavesRun (problem_in request.now.problem) R.remaining reader.old reader.new
         writer.old writer.new (end_of result) }
 {
-    let task = task_read(alloc, request, reader)?;
-    let printed = printed_for(alloc, &task, effort)?;
-    writer.push_all(printed.text.inner().as_slice())?;
-    Ok(printed.planned)
+    write_printed(writer, plan_printed(alloc, request, effort, reader))
 }
 
 // The text of a plan, and what is known of it.
@@ -56,7 +57,38 @@ struct Printed<A: Allocator = Global> {
     planned: Planned,
 }
 
-// The best plan that is found, as a text.
+// The best plan of an instance that is found, as a text.
+fn plan_printed<A: Allocator + Copy, B: Allocator, P: Progress + PlanProgress + Drop, R: Read>(
+    alloc: A,
+    request: &Request<B>,
+    effort: Effort<P>,
+    reader: &mut Counted<R>,
+) -> Result<Printed<A>, RunFault<A>>
+    ensures { Makes (plan_run A request.now (use_of R.remaining reader.old reader.new))
+        (λ text (printed : Printed A). Plans A request.now text printed.planned
+        (inner_of printed.text).items)
+        (LeavesInstance (problem_in request.now.problem) R.remaining reader.old reader.new)
+        result }
+{
+    let task = task_read(alloc, request, reader)?;
+    printed_for(alloc, &task, effort)
+}
+
+// Writes the text of a plan, or passes on why there is none.
+fn write_printed<A: Allocator, W: Write>(
+    writer: &mut Counted<W>,
+    printed: Result<Printed<A>, RunFault<A>>,
+) -> Result<Planned, RunFault<A>>
+    ensures { Ends (λ printed. printed.planned)
+        (λ (printed : Printed A). (inner_of printed.text).items)
+        W.contents writer.old writer.new printed result }
+{
+    let Printed { text, planned } = printed?;
+    writer.push_all(text.inner().as_slice())?;
+    Ok(planned)
+}
+
+// The best plan of a task that is found, as a text.
 fn printed_for<A: Allocator + Copy, B: Allocator, P: Progress + PlanProgress + Drop>(
     alloc: A,
     task: &ProblemTask<B>,

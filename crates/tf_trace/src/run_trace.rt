@@ -1,12 +1,14 @@
 //! The working of a method, from bytes to bytes.
 ghost use Rattle.std.specs.Prelude.{IfOk, MatchResult};
 ghost use Rattle.tf_check.specs.Accepted.{IsAccepted, IsBestAnswer};
-ghost use Rattle.tf_engine.specs.Devices.{LeavesRun};
+ghost use Rattle.tf_engine.specs.Devices.{LeavesInstance, LeavesRun};
 ghost use Rattle.tf_engine.specs.Faults.{end_of, stop_of};
+ghost use Rattle.tf_engine.specs.Outputs.{MakesOutput};
+ghost use Rattle.tf_engine.specs.Runs.{IsOutcome};
 ghost use Rattle.tf_engine.specs.Parts.{StopsBy};
 ghost use Rattle.tf_engine.specs.Refusal.{problem_for};
 ghost use Rattle.tf_text.specs.Counted.{use_of};
-ghost use Rattle.tf_trace.specs.RunTracing.{EndsInValue, IsOfCycle, IsTraceOf};
+ghost use Rattle.tf_trace.specs.RunTracing.{EndsInValue, IsOfCycle, trace_run};
 
 use crate::board::{Board, Style};
 use crate::trace::write_trace;
@@ -15,6 +17,7 @@ use std::io::{Read, Write};
 use tf_check::answer::Answer;
 use tf_engine::case::{Asked, asked_read};
 use tf_engine::fault::RunFault;
+use tf_engine::output::{Output, write_output};
 use tf_engine::request::Request;
 use tf_engine::solve::solve;
 use tf_model::memory::OutOfMemory;
@@ -36,16 +39,30 @@ pub fn run_trace<R: Read, W: Write>(
     reader: &mut Counted<R>,
     writer: &mut Counted<W>,
 ) -> Result<(), RunFault>
-    ensures outcome { IsTraceOf request.now (use_of R.remaining reader.old reader.new)
+    ensures outcome { IsOutcome (trace_run request.now
+        (use_of R.remaining reader.old reader.new))
         (use_of W.contents writer.old writer.new) result }
     ensures devices { LeavesRun (problem_for request.now.problem) R.remaining reader.old reader.new
         writer.old writer.new (end_of result) }
 {
+    write_output(writer, trace_output(alloc, request, style, reader))
+}
+
+// The text of the working.
+fn trace_output<R: Read>(
+    alloc: Global,
+    request: &Request,
+    style: Style,
+    reader: &mut Counted<R>,
+) -> Result<Output<()>, RunFault>
+    ensures { MakesOutput (trace_run request.now (use_of R.remaining reader.old reader.new))
+        (LeavesInstance (problem_for request.now.problem) R.remaining reader.old reader.new)
+        result }
+{
     let asked = asked_read(alloc, request, reader)?;
     let answer = answer_to(alloc, &asked.task)?;
     let text = trace_bytes(alloc, &asked, &answer, style)?;
-    writer.push_all(text.as_slice())?;
-    Ok(())
+    Ok(Output { text, returned: () })
 }
 
 // An optimal answer, or a cycle of arcs.

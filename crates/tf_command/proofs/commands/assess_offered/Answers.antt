@@ -1,6 +1,9 @@
-use Rattle.std.proofs.Common.{Err}
+use Rattle.std.proofs.Common.{Err, Global, Some, subst}
 use Rattle.std.proofs.KnownBytes.{Keeps-refl}
-use Rattle.tf_text.specs.Counted.{inner_of}
+use Rattle.tf_text.specs.Counted.{inner_of, use_of}
+use Rattle.tf_engine.specs.RequestData.{RequestData}
+use Rattle.tf_engine.specs.Runs.{IsOutcome}
+use Rattle.tf_assess.specs.RunAssessing.{assessment_run}
 use Rattle.tf_engine.specs.declared.fault.RunFault.TheVariants.{OutOfMemory}
 use Rattle.tf_engine.proofs.Unread.{text_for}
 use Rattle.tf_command.specs.Recorded.{bytes_left}
@@ -13,13 +16,7 @@ returns-in_default g c =
     let (said, is_said) = text_for (bytes_left g.S.Read.remaining (inner_of c.args.answer.now)) in
     record {
       run = Err OutOfMemory;
-      outcome = record {
-        text = text;
-        is_all = is;
-        answer_text = said;
-        is_whole_answer = is_said;
-        outcome = Keeps-refl _;
-      };
+      outcome = record { texts = (text, said); are_all = (is, is_said); outcome = Keeps-refl _ };
       ends = c.say_memory.ensures.status;
       said = says_alone c.say_memory.ensures.line;
     }
@@ -27,7 +24,13 @@ returns-in_default g c =
 pub returns : goal.returns
 returns g c = record {
   run = c.assess_over.result;
-  outcome = rw (← c.in-Ok.ensures) c.assess_over.ensures.outcome;
+  outcome = subst (λ (r : RequestData). IsOutcome {A = Global}
+      (assessment_run Global (Some c.args.sheet) r
+      (use_of (bytes_left g.R.Read.remaining) c.args.instance.now c.assess_over.new.instance)
+      (use_of (bytes_left g.S.Read.remaining) c.args.answer.now c.assess_over.new.answer))
+      (use_of g.W.Write.contents c.args.console.now.writer c.assess_over.new.console.writer)
+      c.assess_over.result)
+      c.in-Ok.ensures c.assess_over.ensures.outcome;
   ends = rw (← c.rated-run.ensures) c.end_evaluation-status.ensures.status;
   said = rw (← c.rated-run.ensures, ← c.assess_over.ensures.unsaid)
       (says_explained c.end_evaluation-status.ensures.line

@@ -1,6 +1,9 @@
-use Rattle.std.proofs.Common.{Err}
+use Rattle.std.proofs.Common.{Err, Global, subst}
 use Rattle.std.proofs.KnownBytes.{Keeps-refl}
-use Rattle.tf_text.specs.Counted.{inner_of}
+use Rattle.tf_text.specs.Counted.{inner_of, use_of}
+use Rattle.tf_engine.specs.RequestData.{RequestData}
+use Rattle.tf_engine.specs.Runs.{IsOutcome}
+use Rattle.tf_bounding.specs.RunBounding.{bound_run}
 use Rattle.tf_engine.specs.declared.fault.RunFault.TheVariants.{OutOfMemory}
 use Rattle.tf_engine.proofs.Unread.{text_for}
 use Rattle.tf_command.specs.Recorded.{bytes_left}
@@ -12,7 +15,7 @@ returns-in_default g c =
     let (text, is) = text_for (bytes_left g.R.Read.remaining (inner_of c.args.instance.now)) in
     record {
       run = Err OutOfMemory;
-      outcome = record { text = text; is_all = is; outcome = Keeps-refl _ };
+      outcome = record { texts = text; are_all = is; outcome = Keeps-refl _ };
       ends = c.say_memory.ensures.status;
       said = says_alone c.say_memory.ensures.line;
     }
@@ -20,7 +23,12 @@ returns-in_default g c =
 pub returns : goal.returns
 returns g c = record {
   run = c.bound_over-run.result;
-  outcome = rw (← c.in-Ok.ensures) c.bound_over-run.ensures.outcome;
+  outcome = subst (λ (r : RequestData). IsOutcome {A = Global}
+      (bound_run Global r
+      (use_of (bytes_left g.R.Read.remaining) c.args.instance.now c.bound_over-run.new.instance))
+      (use_of g.W.Write.contents c.args.console.now.writer c.bound_over-run.new.console.writer)
+      c.bound_over-run.result)
+      c.in-Ok.ensures c.bound_over-run.ensures.outcome;
   ends = c.end_run-status.ensures.status;
   said = rw (← c.bound_over-run.ensures.unsaid)
       (says_explained c.end_run-status.ensures.line c.tell_solved.ensures);

@@ -14,22 +14,10 @@ returns-in_default g c =
     record {
       run = Err OutOfMemory;
       outcome = record {
-        solved = λ _. record {
-          text = text;
-          is_all = is;
-          answer_text = said;
-          is_whole_answer = is_said;
-          outcome = Keeps-refl _;
-        };
+        solved = λ _. record { texts = (text, said); are_all = (is, is_said); outcome = Keeps-refl _ };
         unsolved = λ _. (
           Err OutOfMemory,
-          record {
-            text = text;
-            is_all = is;
-            answer_text = said;
-            is_whole_answer = is_said;
-            outcome = Keeps-refl _;
-          },
+          record { texts = (text, said); are_all = (is, is_said); outcome = Keeps-refl _ },
           refl,
         );
       };

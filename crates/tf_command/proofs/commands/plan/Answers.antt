@@ -15,10 +15,10 @@ returns-in_default g c =
       outcome = record {
         solved = λ _. (
           Err OutOfMemory,
-          record { text = text; is_all = is; outcome = Keeps-refl _ },
+          record { texts = text; are_all = is; outcome = Keeps-refl _ },
           refl,
         );
-        unsolved = λ _. record { text = text; is_all = is; outcome = Keeps-refl _ };
+        unsolved = λ _. record { texts = text; are_all = is; outcome = Keeps-refl _ };
       };
       ends = c.say_memory.ensures.status;
       said = says_alone c.say_memory.ensures.line;

@@ -1,6 +1,9 @@
-use Rattle.std.proofs.Common.{Err}
+use Rattle.std.proofs.Common.{Err, Global, subst}
 use Rattle.std.proofs.KnownBytes.{Keeps-refl}
-use Rattle.tf_text.specs.Counted.{inner_of}
+use Rattle.tf_text.specs.Counted.{inner_of, use_of}
+use Rattle.tf_engine.specs.RequestData.{RequestData}
+use Rattle.tf_engine.specs.Runs.{IsOutcome}
+use Rattle.tf_orders.specs.RunOrders.{orders_run}
 use Rattle.tf_engine.specs.declared.fault.RunFault.TheVariants.{OutOfMemory}
 use Rattle.tf_engine.proofs.Unread.{text_for}
 use Rattle.tf_command.specs.Recorded.{bytes_left}
@@ -13,13 +16,7 @@ returns-in_default g c =
     let (orders, is_orders) = text_for (bytes_left g.S.Read.remaining (inner_of c.args.orders.now)) in
     record {
       run = Err OutOfMemory;
-      outcome = record {
-        text = text;
-        is_all = is;
-        orders_text = orders;
-        is_whole = is_orders;
-        outcome = Keeps-refl _;
-      };
+      outcome = record { texts = (text, orders); are_all = (is, is_orders); outcome = Keeps-refl _ };
       ends = c.say_memory.ensures.status;
       said = says_alone c.say_memory.ensures.line;
     }
@@ -27,7 +24,13 @@ returns-in_default g c =
 pub returns : goal.returns
 returns g c = record {
   run = c.orders_over-run.result;
-  outcome = rw (← c.in-Ok.ensures) c.orders_over-run.ensures.outcome;
+  outcome = subst (λ (r : RequestData). IsOutcome {A = Global}
+      (orders_run Global c.args.rates.form c.args.rates.aids.offered r c.args.rates.others
+      (use_of (bytes_left g.R.Read.remaining) c.args.instance.now c.orders_over-run.new.instance)
+      (use_of (bytes_left g.S.Read.remaining) c.args.orders.now c.orders_over-run.new.orders))
+      (use_of g.W.Write.contents c.args.console.now.writer c.orders_over-run.new.console.writer)
+      c.orders_over-run.result)
+      c.in-Ok.ensures c.orders_over-run.ensures.outcome;
   ends = c.end_rating-status.ensures.status;
   said = rw (← c.orders_over-run.ensures.unsaid)
       (says_explained c.end_rating-status.ensures.line c.tell_rated.ensures);

@@ -9,6 +9,6 @@ use Rattle.tf_orders.proofs.rating.pieces_rating.Goals as goal
 pub returns-in_err-pieces : goal.returns-in_err-pieces
 returns-in_err-pieces g c =
     λ detail. err_is (λ r. MatchResult r
-    (λ r. AreRated (Pieces detail) c.args.measure c.args.text.now r.text.items r.rated)
+    (λ r. AreRated (Pieces detail) c.args.measure c.args.text.now r.text.items r.returned)
     (λ e. IsUnrated (Pieces detail) c.args.measure c.args.text.now (stop_of e)))
     c.in_err-pieces.field-0.0 _ c.from_residual.ensures.1 c.in_err-pieces.ensures
