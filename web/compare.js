@@ -135,9 +135,9 @@ function requestOf(solver, command) {
   const of = problem(command), [text, format] = instance(of), bytes = new TextEncoder().encode(sometimes(text));
   const machines = once(15) || /^P\|/.test(of) && !once(8) ? random(once(9) ? 3000 : 5) : null;
   const asked = { problem: of, machines, format, instance: bytes, answerVersion: 1 + random(2) };
-  const request = { command, certificate: command === "evaluate" && once(2), columns: random(once(9) ? 2000 : 120),
+  const request = { command, certificate: ["evaluate", "report"].includes(command) && once(2), columns: random(once(9) ? 2000 : 120),
     steps: /^J/.test(of) ? random(4) : once(2) ? null : random(once(9) ? 3 : 300), answer: new Uint8Array(0), ...asked };
-  if (["solve", "plan", "bound", "problems"].includes(command)) return request;
+  if (["solve", "report", "plan", "bound", "problems"].includes(command)) return request;
   const solved = solver.run({ command: "solve", ...asked });
   const example = "answer 2\nproblem 1||sumC\njobs 1\nmachines 1\nvalue 3\npiece 1 1 0 3\ncert pairs\nend\n";
   const answer = solved.status === 0 ? new TextDecoder().decode(solved.output) : example;
@@ -153,9 +153,17 @@ function native(folder, request, k) {
     resolve({ status: error ? error.code : 0, output, errors: errors.toString() })));
 }
 
+// An answer with its evaluation behind it, which the program prints in two runs.
+async function reported(folder, request, k) {
+  const solved = await native(folder, { ...request, command: "solve", certificate: false }, k);
+  if (solved.status !== 0) return solved;
+  const evaluated = await native(folder, { ...request, command: "evaluate", answer: solved.output }, k);
+  return { ...evaluated, output: Buffer.concat([solved.output, evaluated.output]) };
+}
+
 // What a request is compared with: a run of the native program, or of another module.
 async function comparedWith(folder) {
-  if (!program.endsWith(".wasm")) return (request, k) => native(folder, request, k);
+  if (!program.endsWith(".wasm")) return (request, k) => (request.command === "report" ? reported : native)(folder, request, k);
   const other = await loadSolver(fs.readFileSync(program));
   return async request => {
     const { output, ...rest } = other.run({ ...request, instance: request.command === "problems" ? undefined : request.instance });
@@ -173,7 +181,7 @@ async function main() {
     while (next < CASES) {
       next++;
       const hard = pick(solver.can("plan") ? ["plan", "bound"] : ["bound"]);
-      const command = pick(["solve", "solve", "check", "evaluate", "gantt", "picture", hard, once(20) ? "problems" : "solve"]);
+      const command = pick(["solve", "report", "check", "evaluate", "gantt", "picture", hard, once(20) ? "problems" : "solve"]);
       const request = requestOf(solver, command), mine = solver.run({ ...request, instance: command === "problems" ? undefined : request.instance });
       const theirs = await compared(request, k);
       const count = `${command} ${theirs.status}`;

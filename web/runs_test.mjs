@@ -4,7 +4,7 @@ import { test } from "node:test";
 import { load } from "./modules.mjs";
 
 const { readAnswer, readEvaluation } = await load("answer");
-const { judge, search } = await load("runs");
+const { judge, plan, search } = await load("runs");
 const { makePlan } = await load("plan");
 const { leastWords, valueText } = await load("values");
 const { defaultSettings, makeCalendar } = await load("calendar");
@@ -151,4 +151,19 @@ test("values are lengths of time where the objective is one", () => {
   }
   assert.equal(leastWords(calendar, "1||sumT", "22"), "less than 11 h");
   assert.equal(leastWords(null, "1||sumU", "1"), "fewer than 1 late job");
+});
+
+test("a plan and its evaluation stand in one text", () => {
+  const head = "problem 1||sumC\njobs 1\nmachines 1\n";
+  const answer = `answer 2\n${head}value 3\npiece 1 1 0 3\ncert pairs\nend\n`;
+  const evaluation = `evaluation 1\n${head}fits\nclaimed 3\nvalue 3\nbest 3\ngap 0\nbound 3\n`
+    + "job 1 0 3 3\nend\n";
+  const report = { status: 0, errors: "", output: bytes(answer + evaluation) };
+  const found = plan(moduleOf({ report }), {});
+  assert.deepEqual(found.answer, bytes(answer));
+  assert.deepEqual([found.schedule.value, found.evaluation.value], ["3", "3"]);
+  assert.deepEqual([[...found.evaluation.start], [...found.evaluation.completion]], [[0], [3]]);
+  const refused = { status: 2, errors: "threefield: refused: NoSolver\n", output: bytes("") };
+  assert.deepEqual(plan(moduleOf({ report: refused }), {}),
+    { status: 2, errors: "threefield: refused: NoSolver\n" });
 });

@@ -2148,6 +2148,15 @@ def in_program(program, request, folder):
     return [ran.returncode, ran.stdout.decode(), ran.stderr.decode()]
 
 
+def reported(program, request, folder):
+    """The answer of the native program, and its evaluation behind it."""
+    status, answer, errors = in_program(program, {**request, "command": "solve"}, folder)
+    if status != 0:
+        return [status, answer, errors]
+    status, evaluation, errors = in_program(program, {**request, "command": "evaluate", "answer": answer}, folder)
+    return [status, answer + evaluation, errors]
+
+
 def like_the_program(page, program):
     """Every example of the nineteen problems, its answers whole and damaged, and bounds."""
     examples = HERE.parent / "examples"
@@ -2160,6 +2169,7 @@ def like_the_program(page, program):
     asked += [{"problem": "1||Lmax", "instance": (examples / "slips.txt").read_text()}]
     commands = ("solve", "bound", "plan") if has_plans(page) else ("solve", "bound")
     requests = [{"command": command, **each} for each in asked for command in commands]
+    requests += [{"command": "report", "certificate": True, **each} for each in asked]
     requests.append({"command": "problems"})
     requests += [{"command": "bound", "problem": problem, "instance": (examples / "routes.txt").read_text()}
                  for problem in ("J||sumwT", "J||sumwU", "J|prec|sumC")]
@@ -2170,7 +2180,8 @@ def like_the_program(page, program):
             requests += [{"command": command, "answer": text, "certificate": True, "columns": 40, **each}
                          for command in ("check", "evaluate", "gantt", "picture")]
     for request, found in zip(requests, in_browser(page, requests), strict=True):
-        expect(found, in_program(program, request, page.browser.folder.name), str(request))
+        run = reported if request["command"] == "report" else in_program
+        expect(found, run(program, request, page.browser.folder.name), str(request))
     print(f"        {len(requests)} runs are byte for byte those of the program")
 
 

@@ -14,15 +14,23 @@ const WITHIN_GAP = 6;
  * @param {object} request
  */
 export function plan(solver, request) {
-  const solved = solver.run({ ...request, command: "solve", answerVersion: 2 });
-  const { status, errors } = solved;
+  const { status, errors, output } = solver.run({ ...request, command: "report",
+    answerVersion: 2, certificate: true });
   if (status !== 0) return { status, errors };
-  const answer = solved.output;
+  const answer = output.slice(0, endOfAnswer(output));
   const schedule = readAnswer(answer);
-  const evaluated = solver.run({ ...request, command: "evaluate", answer, certificate: true });
-  if (evaluated.status !== 0) return { status: evaluated.status, errors: evaluated.errors };
   return { status, errors, answer, schedule,
-    evaluation: readEvaluation(evaluated.output, schedule.jobs) };
+    evaluation: readEvaluation(output.subarray(answer.length), schedule.jobs) };
+}
+
+/** Where the first text ends, which is over with its first line `end`. */
+function endOfAnswer(output) {
+  const end = [..."\nend\n"].map((letter) => letter.charCodeAt(0));
+  let at = output.indexOf(end[0]);
+  while (at >= 0 && !end.every((byte, k) => output[at + k] === byte)) {
+    at = output.indexOf(end[0], at + 1);
+  }
+  return at + end.length;
 }
 
 /**

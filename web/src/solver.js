@@ -49,7 +49,7 @@ const loadSolver = (() => {
     const name = request.format && request.format.kind === "flow" ? request.format.name : "";
     const instance = request.instance || NONE, answer = request.answer || NONE;
     switch (request.command) {
-      case "solve": case "bound": case "plan":
+      case "solve": case "report": case "bound": case "plan":
         return [encode(request.problem), encode(name), instance, NONE];
       case "check": case "evaluate":
         return [encode(request.problem), encode(name), instance, answer];

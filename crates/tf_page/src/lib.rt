@@ -11,14 +11,16 @@ mod arena;
 mod given;
 
 ghost use Rattle.tf_reply.specs.Commands.{Solves, Plans, Bounds, Checks, Evaluates, Draws};
-ghost use Rattle.tf_reply.specs.Commands.{Pictures};
+ghost use Rattle.tf_reply.specs.Commands.{Pictures, Reports};
 ghost use Rattle.tf_reply.specs.Replies.{IsListed};
 ghost use Rattle.tf_page.specs.Given.{Given, Lent};
 
 use crate::arena::arena_over;
 use crate::given::{Lengths, give, give_memory};
 use tf_reply::asking::Asking;
-use tf_reply::commands::{bound, check, evaluate, gantt, picture, plan, problems, solve};
+use tf_reply::commands::{
+    bound, check, evaluate, gantt, picture, plan, problems, report_answer, solve,
+};
 use tf_reply::space::Space;
 
 /// Solves an instance.
@@ -102,6 +104,23 @@ pub extern "C" fn page_evaluate(
 {
     match arena_over(space) {
         Ok(arena) => give(&evaluate(&arena, asking, texts), out, lengths),
+        Err(_) => give_memory(out, lengths),
+    }
+}
+
+/// Solves an instance, and evaluates the answer.
+#[unsafe(no_mangle)]
+pub extern "C" fn page_report(
+    space: Space,
+    asking: &Asking,
+    texts: &[u8],
+    out: &mut [u8],
+    lengths: &mut Lengths,
+) -> u8
+    ensures { Given (Reports Lent asking.now texts.now) out.old out.new lengths.new result }
+{
+    match arena_over(space) {
+        Ok(arena) => give(&report_answer(&arena, asking, texts), out, lengths),
         Err(_) => give_memory(out, lengths),
     }
 }

@@ -9,7 +9,7 @@ use Rattle.tf_command.specs.Planning.{EndsPlanning}
 use Rattle.tf_reply.specs.declared.asking.Asking.{Asking}
 use Rattle.tf_reply.specs.Asked.{request_in, instance_part, answer_part, layout_said, detail_said}
 use Rattle.tf_reply.specs.WellFormed.{IsWellFormed, HasAllowedSteps, HasAllowedColumns}
-use Rattle.tf_reply.specs.Replies.{Outcome, IfWellFormed, IsOver, IsOverBoth}
+use Rattle.tf_reply.specs.Replies.{Outcome, EndsReport, IfWellFormed, IsOver, IsOverBoth}
 
 abbrev pub Solves : Type 0 → Asking → List ℕ → Outcome
 Solves A asking texts =
@@ -39,6 +39,13 @@ Evaluates A asking texts =
     (IsOverBoth
     (EndsEvaluating A (detail_said asking.certificate) (request_in asking texts Two))
     (instance_part asking texts) (answer_part asking texts))
+
+abbrev pub Reports : Type 0 → Asking → List ℕ → Outcome
+Reports A asking texts =
+    IfWellFormed (IsWellFormed asking texts)
+    (EndsReport (EndsSolving A (request_in asking texts (layout_said asking.version)))
+    (EndsEvaluating A (detail_said asking.certificate) (request_in asking texts Two))
+    (instance_part asking texts))
 
 -- of these two the answer is all of the texts
 abbrev pub Draws : Type 0 → Asking → List ℕ → Outcome

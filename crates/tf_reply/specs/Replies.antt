@@ -1,5 +1,5 @@
 -- How a command over texts in memory ends.
-use Rattle.std.specs.Prelude.{◌≡◌, ◌≢◌, ℕ, ◌⊎◌, List, [], None, Some, Ok, Err}
+use Rattle.std.specs.Prelude.{◌≡◌, ◌≢◌, ℕ, ◌⊎◌, List, [], ◌++◌, None, Some, Ok, Err}
 use Rattle.tf_listing.specs.Listing.{listing}
 use Rattle.tf_listing.specs.declared.listing.Listed.TheVariants.{Solved}
 use Rattle.tf_model.specs.InstanceData.{InstanceData}
@@ -72,6 +72,24 @@ pub record IsOverBoth
   pub prints : Prints output writer
   pub ends : Ends reader answer_reader writer (λ line. errors ≡ line) status
   pub memory : HadMemory status
+
+-- An instance is solved, and its answer evaluated: both texts are printed, one behind the other.
+pub record IsReported (Solves : DeviceUse → DeviceUse → (List ℕ → Type 0) → ℕ → Type 0)
+    (Evaluates : DeviceUse → DeviceUse → DeviceUse → (List ℕ → Type 0) → ℕ → Type 0)
+    (instance output errors : List ℕ) (status : ℕ) : Type 0 where
+  pub answer : List ℕ
+  pub evaluation : List ℕ
+  pub unsaid : List ℕ
+  pub solved : IsOver Solves instance answer unsaid 0
+  pub evaluated : IsOverBoth Evaluates instance answer evaluation errors status
+  pub prints : output ≡ answer ++ evaluation
+
+-- that, or it is not solved
+abbrev pub EndsReport : (DeviceUse → DeviceUse → (List ℕ → Type 0) → ℕ → Type 0)
+    → (DeviceUse → DeviceUse → DeviceUse → (List ℕ → Type 0) → ℕ → Type 0) → List ℕ → Outcome
+EndsReport Solves Evaluates instance output errors status =
+    IsReported Solves Evaluates instance output errors status
+    ⊎ ((status ≢ 0) × IsOver Solves instance output errors status)
 
 -- a table is refused with the line of what is wrong with it, and nothing is printed
 pub record IsTableRefused (A : Type 0) (table output errors : List ℕ) (status : ℕ) : Type 0 where

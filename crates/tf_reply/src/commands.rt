@@ -7,8 +7,9 @@ ghost use Rattle.tf_command.specs.Ending.{EndsSolving, EndsBounding, EndsCheckin
 ghost use Rattle.tf_command.specs.Ending.{EndsDrawing};
 ghost use Rattle.tf_command.specs.Planning.{EndsPlanning};
 ghost use Rattle.tf_reply.specs.Commands.{Solves, Plans, Bounds, Checks, Evaluates, Draws};
-ghost use Rattle.tf_reply.specs.Commands.{Pictures};
+ghost use Rattle.tf_reply.specs.Commands.{Pictures, Reports};
 ghost use Rattle.tf_reply.specs.Replies.{printed, said, Replies, IsOver, IsOverBoth, IsListed};
+ghost use Rattle.tf_reply.specs.Replies.{EndsReport};
 
 use crate::asking::{Asked, Asking};
 use crate::reply::{Console, Reply, misused};
@@ -168,7 +169,14 @@ pub fn evaluate<A: Allocator + Copy>(
     ensures { IfOk result (Replies (Evaluates A asking.now texts.now)) }
 {
     match asking.read(texts) {
-        Ok(asked) => evaluated(alloc, asking.detail(), &asked),
+        Ok(asked) => {
+            let Asked {
+                options,
+                instance,
+                answer,
+            } = asked;
+            evaluated(alloc, asking.detail(), &options, instance, answer)
+        }
         Err(text) => misused(alloc, text),
     }
 }
@@ -176,15 +184,16 @@ pub fn evaluate<A: Allocator + Copy>(
 fn evaluated<A: Allocator + Copy>(
     alloc: A,
     detail: Detail,
-    asked: &Asked<'_>,
+    options: &Options<'_>,
+    instance: &[u8],
+    answer: &[u8],
 ) -> Result<Reply<A>, AllocError>
     ensures { IfOk result (Replies (IsOverBoth
-        (EndsEvaluating A detail (requested asked.now.options Layout.Two))
-        asked.now.instance.now asked.now.answer.now)) }
+        (EndsEvaluating A detail (requested options.now Layout.Two)) instance.now answer.now)) }
 {
-    let request = asked.options.request(alloc, Layout::Two)?;
-    let mut instance = Counted::new(asked.instance);
-    let mut answer = Counted::new(asked.answer);
+    let request = options.request(alloc, Layout::Two)?;
+    let mut instance = Counted::new(instance);
+    let mut answer = Counted::new(answer);
     let mut console = Console::new(alloc);
     let output = &mut console.output;
     let rating = RatingRequest {
@@ -195,6 +204,60 @@ fn evaluated<A: Allocator + Copy>(
     let run = run_rate(alloc, rating, &mut instance, &mut answer, output);
     let status = end_evaluation(&run, &mut console.errors);
     console.ended(status)
+}
+
+/// Solves an instance, and evaluates the answer: prints it, and behind it the evaluation.
+pub fn report_answer<A: Allocator + Copy>(
+    alloc: A,
+    asking: &Asking,
+    texts: &[u8],
+) -> Result<Reply<A>, AllocError>
+    ensures { IfOk result (Replies (Reports A asking.now texts.now)) }
+{
+    match asking.read(texts) {
+        Ok(asked) => reported(alloc, asking.layout(), asking.detail(), &asked),
+        Err(text) => misused(alloc, text),
+    }
+}
+
+fn reported<A: Allocator + Copy>(
+    alloc: A,
+    layout: Layout,
+    detail: Detail,
+    asked: &Asked<'_>,
+) -> Result<Reply<A>, AllocError>
+    ensures { IfOk result (Replies (EndsReport
+        (EndsSolving A (requested asked.now.options layout))
+        (EndsEvaluating A detail (requested asked.now.options Layout.Two))
+        asked.now.instance.now)) }
+{
+    let reply = solved(alloc, &asked.options, layout, asked.instance)?;
+    if reply.status != 0 {
+        return Ok(reply);
+    }
+    let answer = reply.console.output.inner().as_slice();
+    let evaluation = evaluated(alloc, detail, &asked.options, asked.instance, answer)?;
+    behind(reply, evaluation)
+}
+
+// A reply with what another one prints behind what it printed, and else as that one is.
+fn behind<A: Allocator + Copy>(first: Reply<A>, second: Reply<A>) -> Result<Reply<A>, AllocError>
+    ensures { IfOk result (λ r. (printed r ≡ printed first ++ printed second)
+        × (said r ≡ said second) × (r.status ≡ second.status)) }
+{
+    let Reply { console, .. } = first;
+    let Console { mut output, .. } = console;
+    let Reply { status, console } = second;
+    match output.push_all(console.output.inner().as_slice()) {
+        Ok(()) => Ok(Reply {
+            status,
+            console: Console {
+                output,
+                errors: console.errors,
+            },
+        }),
+        Err(_) => Err(AllocError),
+    }
 }
 
 /// Draws an answer as a chart.

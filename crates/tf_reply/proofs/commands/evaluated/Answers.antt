@@ -16,9 +16,9 @@ returns g c =
     over_both console (record { output = run.new.writer; errors = ended.new.writer })
     c.new-console.ensures.output c.new-console.ensures.errors (line_of run.result)
     ended.ensures.line c.new-instance.result run.new.instance c.new-answer.result run.new.answer
-    c.args.asked.now.instance.now c.args.asked.now.answer.now
+    c.args.instance.now c.args.answer.now
     (ap (λ s. s.now) c.new-instance.ensures.inner) (ap (λ s. s.now) c.new-answer.ensures.inner)
-    (EndsEvaluating g.row.A.Denot c.args.detail (requested c.args.asked.now.options Two))
+    (EndsEvaluating g.row.A.Denot c.args.detail (requested c.args.options.now Two))
     ended.result
     (λ says said. record {
       run = run.result;
