@@ -3,11 +3,11 @@
 
     python3 bench/ranges.py PROGRAM SEED COUNT
 
-Each case is a weighted tardiness file of a few small instances, some with a fault, and a range that may go beyond them: `solve`,
-`bound`, or `evaluate` of a rule, of an order for each instance or of an answer for each, some of these damaged, as text or with
---json. What is wanted is made of runs with `--index K`, with the order by `--order` and the answer in a file of its own: the words
-of their lines `value`, `gap` and `misfit` behind the number, or their JSON objects with the number as second member; and behind the
-last of them what is said of a refusal, with its number, and its status.
+Each case is a weighted tardiness or a flow shop file of a few small instances, some with a fault, and a range that may go beyond
+them: `solve`, `bound`, or `evaluate` of a rule, of an order for each instance or of an answer for each, perhaps beside a bound for each,
+some of these damaged, as text or with --json. What is wanted is made of runs with `--index K` or `--name`, with the order by `--order`
+and the answer and the bound in files of their own: the words of their lines `value`, `gap` and `misfit` behind the number, or their JSON
+objects with the number as second member; and behind the last of them what is said of a refusal, with its number, and its status.
 """
 import os
 import random
@@ -16,6 +16,7 @@ import sys
 import tempfile
 
 PROBLEMS = ["1||sumwC", "1||Lmax", "1||sumwT", "1||sumT", "1||sumU", "P2||sumC", "P3||Cmax"]
+SHOPS = ["F2||Cmax", "F||Cmax", "O2||Cmax", "F2|prmp|Cmax", "F||sumC"]
 MACHINES = {"P2": 2, "P3": 3}
 RULES = ["EDD", "SPT", "LPT", "WSPT"]
 HEAD = b'{"version":1,'
@@ -27,16 +28,48 @@ class Case:
 
     def __init__(self, rng):
         self.rng = rng
-        self.problem = rng.choice(PROBLEMS)
         self.jobs = rng.randint(1, 6)
         self.count = rng.randint(1, 5)
+        self.names = None
+        if rng.random() < 0.3:
+            self.flow_shop()
+        else:
+            self.weighted_tardiness()
+        first = rng.randint(1, self.count)
+        self.range = ("all", 1, None) if rng.random() < 0.5 else (None, first, rng.randint(first, self.count + 1))
+        self.json = ["--json"] if rng.random() < 0.4 else []
+
+    def weighted_tardiness(self):
+        rng = self.rng
+        self.problem = rng.choice(PROBLEMS)
         times = [[rng.choice([0, 9]) if rng.random() < 0.03 else rng.randint(1, 9) for _ in range(self.jobs)]
                  for _ in range(self.count)]
         rows = [(row, [rng.randint(0, 5) for _ in row], [rng.randint(-3, 30) for _ in row]) for row in times]
         self.text = "".join(" ".join(map(str, row)) + "\n" for instance in rows for row in instance).encode()
-        first = rng.randint(1, self.count)
-        self.range = ("all", 1, None) if rng.random() < 0.5 else (None, first, rng.randint(first, self.count + 1))
-        self.json = ["--json"] if rng.random() < 0.4 else []
+        self.form = ["-f", "wt", "--jobs", str(self.jobs)]
+
+    def flow_shop(self):
+        """Instances with names, of which two may be the same, on two machines, or on more of which two are named."""
+        rng = self.rng
+        self.problem = rng.choice(SHOPS)
+        machines = rng.choice([2, 2, 3])
+        pair = ["--pair", ",".join(map(str, rng.sample(range(machines), 2)))] if machines > 2 or rng.random() < 0.2 else []
+        self.names = [rng.choice("abcde") + str(rng.randint(0, 9)) for _ in range(self.count)]
+        lines = []
+        for name in self.names:
+            rows = [[rng.randint(0, 9) for _ in range(machines)] for _ in range(self.jobs)]
+            rows = [" ".join(f"{machine} {time}" for machine, time in enumerate(row)) for row in rows]
+            damage = ["x"] if rng.random() < 0.05 else []
+            words = rng.choice(["", "instance", " +++ instance of three"])
+            lines += [f" instance {name}", words, f"{self.jobs} {machines}", *rows, *damage]
+        self.text = ("\n".join(lines) + "\n").encode()
+        self.form = ["-f", "flow", *pair]
+
+    def named(self, number):
+        """The words that name an instance alone."""
+        if self.names is None:
+            return ["--index", str(number)]
+        return ["--name", self.names[number - 1] if number <= self.count else ""]
 
     def span(self):
         named, first, last = self.range
@@ -78,10 +111,10 @@ def wanted(program, folder, case, words, one_by_one):
     _, number, last = case.range
     first, written = number, b""
     while last is None or number <= last:
-        status, text, said = run(program, folder, [*words, "--index", str(number), *one_by_one(number - first)])
+        if last is None and number > case.count:
+            break
+        status, text, said = run(program, folder, [*words, *case.named(number), *one_by_one(number - first)])
         if status not in (0, 1, 6):
-            if last is None and number > first and b"NoInstance" in said:
-                break
             line = numbered(said, number) if case.json else said + b"threefield: instance %d\n" % number
             return status, written, line
         written += line_of(case, number, text)
@@ -112,14 +145,30 @@ def orders(folder, case):
 
 def answers(program, folder, case):
     """The same of answers."""
-    words = ["solve", "-p", "1||sumwC", "-f", "wt", "--jobs", str(case.jobs)]
-    texts = [run(program, folder, [*words, "--index", str(number), "wt"])[1] for number in range(1, case.count + 1)]
+    problem = "1||sumwC" if case.names is None else "F2||Cmax"
+    texts = [run(program, folder, ["solve", "-p", problem, *case.form, *case.named(number), "wt"])[1]
+             for number in range(1, case.count + 1)]
     texts = [text.replace(b"piece", b"peace") if case.rng.random() < 0.1 else text for text in texts if text]
-    write(folder, "answers", b"".join(texts))
+    name_of = in_parts(folder, "answer", texts)
+    return ["wt", "answers"], lambda place: ["wt", name_of(place)]
+
+
+def bounds(program, folder, case):
+    """A bound for each instance, or one less."""
+    words = ["bound", "-p", case.problem, *case.form]
+    texts = [run(program, folder, [*words, *case.named(number), "wt"])[1] or b"end\n" for number in range(1, case.count + 1)]
+    texts = [text.replace(b"value", b"valeu") if case.rng.random() < 0.1 else text for text in texts]
+    name_of = in_parts(folder, "bound", texts[:-1] if case.rng.random() < 0.1 else texts)
+    return ["--bound", "bounds"], lambda place: ["--bound", name_of(place)]
+
+
+def in_parts(folder, name, texts):
+    """Writes texts one behind the other, and each alone, and gives the name of that of each place."""
+    write(folder, f"{name}s", b"".join(texts))
     for place, text in enumerate(texts):
-        write(folder, f"answer{place}", text)
+        write(folder, f"{name}{place}", text)
     write(folder, "none", b"")
-    return ["wt", "answers"], lambda place: ["wt", f"answer{place}" if place < len(texts) else "none"]
+    return lambda place: f"{name}{place}" if place < len(texts) else "none"
 
 
 def agrees(program, seed, number):
@@ -135,7 +184,10 @@ def agrees(program, seed, number):
             "rule": lambda: (rule, lambda place: rule),
         }.get(kind, lambda: (["wt"], lambda place: ["wt"]))()
         command = kind if kind in ("solve", "bound") else "evaluate"
-        words = [command, "-p", case.problem, "-f", "wt", "--jobs", str(case.jobs), *case.json]
+        words = [command, "-p", case.problem, *case.form, *case.json]
+        if command == "evaluate" and case.rng.random() < 0.4:
+            (beside, beside_each), alone = bounds(program, folder, case), one_by_one
+            more, one_by_one = [*beside, *more], lambda place: [*beside_each(place), *alone(place)]
         given = run(program, folder, [*words, "--index", case.span(), *more])
         sought = wanted(program, folder, case, words, one_by_one)
         if given != sought:

@@ -68,9 +68,15 @@ function isSpan(word) {
     && Number(last) <= MOST_INDEX;
 }
 
+/** Whether the file is one of several instances, of which none is named. */
+function isOfSeveral(given) {
+  const form = given.get("--format");
+  return form === "wt" || ["flow", "jobshop"].includes(form) && !given.has("--name");
+}
+
 /** What no module has of what is asked for. */
 function lacking(command, given) {
-  const several = !["plan", "check"].includes(command) && given.get("--format") === "wt"
+  const several = !["plan", "check"].includes(command) && isOfSeveral(given)
     && isSpan(given.get("--index"));
   return missing(command, given) ?? (several ? `--index ${given.get("--index")}` : null);
 }

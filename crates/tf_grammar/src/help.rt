@@ -40,7 +40,8 @@ Prints an answer: its problem, its value, the pieces of an optimal schedule as
 no schedule costs less. It is proved that the schedule fits and is optimal.
 
 --index A-B and --index all print a line for each of several instances of a
-weighted tardiness file, or its minimum cost alone with --values.
+weighted tardiness file, or of a flow shop file where no --name is given; with
+--values its minimum cost alone.
 
 Example: threefield solve -p \"P2|prmp|Cmax\" examples/table.txt
          threefield solve -p \"1||sumwC\" -f wt --jobs 40 --index 3 wt40.txt
@@ -96,12 +97,14 @@ open shops and job shops, with the conditions rj, prec, prmp, prmu and nwt and a
 of the objectives Cmax, Lmax, sumC, sumwC, sumT, sumwT, sumU and sumwU.
 
 --index A-B and --index all print a line with the bound of each of several
-instances of a weighted tardiness file.
+instances of a weighted tardiness file, or of a flow shop or job shop file where
+no --name is given.
 
 Example: threefield bound -p \"P2||Cmax\" examples/table.txt
          threefield bound -p \"1||sumwT\" --steps 1000 -f wt --jobs 40 wt40.txt
          threefield bound -p \"1||sumwT\" -f wt --jobs 40 --index 1-125 wt40.txt
          threefield bound -p \"F||Cmax\" -f flow --name t01 examples/taillard.txt
+         threefield bound -p \"F||Cmax\" -f flow --index all flowshop1.txt
 
 Exit status: 0 bounded, 2 refused, 3 want of memory,
              4 a file or a device failed, 5 the command line is wrong.";
@@ -151,8 +154,10 @@ judged, and used where it is stronger than the one that is found. --steps lets
 the search for that one take more time, or less.
 
 --index A-B and --index all evaluate the answers of ANSWER, one after another,
-by as many instances of a weighted tardiness file, and print a line for each;
-with --orders the order in each line, and with --rule that of the rule.
+by as many instances of a weighted tardiness file, or of a flow shop or job shop
+file where no --name is given, and print a line for each; with --orders the order
+in each line, with --rule that of the rule, and with --bound beside the bounds of
+its file, one after another.
 
 Example: threefield evaluate -p \"P2|prmp|Cmax\" examples/table.txt answer.txt
          threefield evaluate -p \"1||sumC\" --certificate table.txt answer.txt

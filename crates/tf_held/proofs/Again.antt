@@ -1,6 +1,8 @@
 -- What the command says of an instance that is read from its own words is what it says of it in its
 -- file.
-use Rattle.std.proofs.Common.{◌≡◌, ℕ, ◌-◌, ◌+◌, ◌*◌, ◌<◌, ◌≤◌, Bool, true, false, cond, List, [], Option, None, Some, Result, Ok, Err, Global, is_some, refl, sym, ap, subst, ◌∙◌, arith, inl, inr, mul-le-mul, take, drop}
+use Rattle.std.proofs.Common.{◌≡◌, ℕ, ◌-◌, ◌+◌, ◌*◌, ◌<◌, ◌≤◌, Bool, true, false, ◌&&◌, cond, List, [], Option, None, Some, Result, Ok, Err, Global, is_none, is_some, refl, sym, ap, subst, ◌∙◌, arith, inl, inr, mul-le-mul, take, drop}
+use Rattle.std.specs.Borrow.{Bor}
+use Rattle.std.specs.Option.{option_map}
 use Rattle.std.specs.Str.{bytes_eq}
 use Rattle.std.proofs.lemmas.Bool.{true≢false}
 use Rattle.std.proofs.lemmas.List.{drop-drop}
@@ -11,6 +13,8 @@ use Rattle.tf_model.specs.Outcome.{◌>>=◌}
 use Rattle.tf_model.specs.Prepare.{prepared}
 use Rattle.tf_model.specs.SchedulingTask.{SchedulingTask}
 use Rattle.tf_model.proofs.Outcomes.{bind_ok}
+use Rattle.tf_model.proofs.Prepared.{none_mapped}
+use Rattle.tf_notation.specs.Reading.{notation}
 use Rattle.tf_posed.specs.ProblemData.{ProblemData}
 use Rattle.tf_prepare.specs.TimedData.{self_timed}
 use Rattle.tf_prepare.specs.Preparing.{prepared_in}
@@ -42,13 +46,17 @@ use Rattle.tf_orders.specs.Measuring.{IsMeasure, detail_of}
 use Rattle.tf_orders.specs.RunOrders.{orders_run}
 use Rattle.tf_asked.specs.declared.aids.Aids.{Aids}
 use Rattle.tf_asked.specs.Asking.{form_asked, requested}
+use Rattle.tf_asked.specs.declared.options.Assessing.{Assessing}
 use Rattle.tf_asked.specs.declared.options.Evaluating.{Evaluating}
-use Rattle.tf_asked.specs.declared.options.FormOption.TheVariants.{Wt}
+use Rattle.tf_asked.specs.declared.options.FormOption.{FormOption}
+use Rattle.tf_asked.specs.declared.options.FormOption.TheVariants.{Table, Wt, Flow}
 use Rattle.tf_asked.specs.declared.options.Options.{Options}
 use Rattle.tf_asked.specs.declared.options.OrderSource.{OrderSource}
 use Rattle.tf_asked.specs.declared.options.OrderSource.TheVariants as sources
 use Rattle.tf_asked.specs.declared.options.Work.{Work as Asking}
 use Rattle.tf_asked.specs.declared.options.Work.TheVariants.{Solve, Bound, Plan, Trace, Check, Evaluate, Assess, Rate, Gantt, Random, Problems, Border, Picture}
+use Rattle.tf_asked.specs.declared.series.FileForm.{FileForm}
+use Rattle.tf_asked.specs.declared.series.FileForm.TheVariants as files
 use Rattle.tf_asked.specs.declared.series.Series.{Series}
 use Rattle.tf_asked.specs.declared.series.Told.{Told}
 use Rattle.tf_asked.specs.declared.series.Told.TheVariants as kinds
@@ -57,9 +65,10 @@ use Rattle.tf_command.specs.Formatted.{held}
 use Rattle.tf_command.specs.Performing.{EndsOver, EndsOverBoth, Performs, RatesAided, RatesOrders}
 use Rattle.tf_command.specs.Statuses.{status_by, status_of, status_of_standing}
 use Rattle.tf_command.specs.Unread.{Texts}
-use Rattle.tf_held.specs.Texts.{held_texts}
-use Rattle.tf_held.specs.Series.{AreOptionsFor, IsEvaluatedBy, IsWorkFor, RunsFor, has_told}
-use Rattle.tf_held.specs.Instances.{HasInstance, AreParts, IsBehind, IsNamedApart}
+use Rattle.tf_held.specs.Shops.{EndsCounted, asks_count, evaluated, is_uncounted_in, wants_count, whole_name}
+use Rattle.tf_held.specs.Texts.{BesideData, held_texts, named_beside}
+use Rattle.tf_held.specs.Series.{AreOptionsFor, IsAssessedBy, IsEvaluatedBy, IsFormFor, IsRatedBy, IsWorkFor, RunsFor, bound_of, has_told}
+use Rattle.tf_held.specs.Instances.{HasInstance, AreParts, IsAnsweredApart, IsBehind, IsNamedApart}
 use Rattle.tf_held.proofs.Numbered.{next_instance, instance_index, instance_jobs}
 
 -- what a run wrote of texts another wrote of other texts, of which it says the same
@@ -336,56 +345,47 @@ none_told fault told = by (stop_of fault) told
 
 -- ---- texts by their names
 
-module _ (input name text answer : List ℕ) (named : name ≡ input) where
+module _ (input name text : List ℕ) (bound : Option (List ℕ)) (beside : BesideData)
+    (named : name ≡ input) where
   named_same : bytes_eq name input ≡ true
   named_same = subst (λ n. bytes_eq n input ≡ true) (sym named) ((bytes_eq-Decides input input).1 refl)
 
+  is_text : Some (cond (bytes_eq name input) text (named_beside bound beside name)) ≡ Some text
+  is_text = ap (λ b. Some (cond b text (named_beside bound beside name))) named_same
+
   opened : (writer : DeviceUse) (says : List ℕ → Type 0) (status : ℕ) (Ends : DeviceUse → Type 0)
-      → EndsOver (held_texts input text answer) name writer says status Ends
+      → EndsOver (held_texts input text bound beside) name writer says status Ends
       → (reader : DeviceUse) × (reader.before ≡ Some text) × Ends reader
   opened writer says status Ends (inl closed) = absurd (true≢false (ap is_some closed.unknown))
-  opened writer says status Ends (inr (reader, reads, ends)) = (
-    reader,
-    reads ∙ ap (λ b. Some (cond b text answer)) named_same,
-    ends,
-  )
+  opened writer says status Ends (inr (reader, reads, ends)) = (reader, reads ∙ is_text, ends)
 
   opens : (writer : DeviceUse) (says : List ℕ → Type 0) (status : ℕ) (Ends : DeviceUse → Type 0)
       (reader : DeviceUse) → reader.before ≡ Some text → Ends reader
-      → EndsOver (held_texts input text answer) name writer says status Ends
-  opens writer says status Ends reader before ends =
-      inr (reader, before ∙ ap (λ b. Some (cond b text answer)) (sym named_same), ends)
+      → EndsOver (held_texts input text bound beside) name writer says status Ends
+  opens writer says status Ends reader before ends = inr (reader, before ∙ sym is_text, ends)
 
   module _ (second : List ℕ) where
+    abbrev second_text : Option (List ℕ)
+    second_text = Some (cond (bytes_eq second input) text (named_beside bound beside second))
+
     opened_both : (writer : DeviceUse) (says : List ℕ → Type 0) (status : ℕ)
         (Ends : DeviceUse → DeviceUse → Type 0)
-        → EndsOverBoth (held_texts input text answer) name second writer says status Ends
+        → EndsOverBoth (held_texts input text bound beside) name second writer says status Ends
         → (reader : DeviceUse) × (other : DeviceUse) × (reader.before ≡ Some text)
-        × (other.before ≡ Some (cond (bytes_eq second input) text answer)) × Ends reader other
+        × (other.before ≡ second_text) × Ends reader other
     opened_both writer says status Ends (inl closed) =
         absurd (true≢false (ap is_some closed.unknown))
     opened_both writer says status Ends (inr (inl closed)) =
         absurd (true≢false (ap is_some closed.unknown))
-    opened_both writer says status Ends (inr (inr (reader, other, reads, reads_other, ends))) = (
-      reader,
-      other,
-      reads ∙ ap (λ b. Some (cond b text answer)) named_same,
-      reads_other,
-      ends,
-    )
+    opened_both writer says status Ends (inr (inr (reader, other, reads, reads_other, ends))) =
+        (reader, other, reads ∙ is_text, reads_other, ends)
 
     opens_both : (writer : DeviceUse) (says : List ℕ → Type 0) (status : ℕ)
         (Ends : DeviceUse → DeviceUse → Type 0) (reader other : DeviceUse)
-        → reader.before ≡ Some text
-        → other.before ≡ Some (cond (bytes_eq second input) text answer) → Ends reader other
-        → EndsOverBoth (held_texts input text answer) name second writer says status Ends
-    opens_both writer says status Ends reader other before before_other ends = inr (inr (
-      reader,
-      other,
-      before ∙ ap (λ b. Some (cond b text answer)) (sym named_same),
-      before_other,
-      ends,
-    ))
+        → reader.before ≡ Some text → other.before ≡ second_text → Ends reader other
+        → EndsOverBoth (held_texts input text bound beside) name second writer says status Ends
+    opens_both writer says status Ends reader other before before_other ends =
+        inr (inr (reader, other, before ∙ sym is_text, before_other, ends))
 
 -- ---- the work of another instance
 
@@ -397,46 +397,97 @@ work_of jobs k (Solve options layout) = Solve (with_number jobs k options) layou
 work_of jobs k (Bound options steps) = Bound (with_number jobs k options) steps
 work_of jobs k (Evaluate evaluating) =
     Evaluate (record evaluating { options = with_number jobs k evaluating.options })
+work_of jobs k (Assess assessing) =
+    Assess (record assessing { options = with_number jobs k assessing.options })
 work_of jobs k (Rate options source aids) = Rate (with_number jobs k options) source aids
 work_of jobs k work = work
 
-options_for : (series : Series) (m k : ℕ) (options : Options) → AreOptionsFor series m options
-    → AreOptionsFor series k (with_number series.jobs k options)
-options_for series m k options o = record {
-  problem = o.problem;
-  form = refl;
-  machines = o.machines;
-  input = o.input;
-  plain = o.plain;
-  unmeasured = o.unmeasured;
-}
+module _ (series : Series) (jobs : ℕ) (wt : series.form ≡ files.Wt jobs) (m k : ℕ)
+    (own file : List ℕ) where
+  form_is : (options : Options) → AreOptionsFor series own m options
+      → form_asked options.form ≡ InWt jobs m
+  form_is options o = subst (λ form. IsFormFor form own m (form_asked options.form)) wt o.form
 
-work_for : (series : Series) (m k : ℕ) (beside : List ℕ) (work : Asking)
-    → IsWorkFor series m beside work → IsWorkFor series k beside (work_of series.jobs k work)
-work_for series m k beside (Solve options layout) is =
-    (is.0, options_for series m k options is.1, is.2)
-work_for series m k beside (Bound options steps) is = (is.0, options_for series m k options is.1)
-work_for series m k beside (Evaluate evaluating) is =
-    (options_for series m k evaluating.options is.0, evaluated series.told evaluating is.1)
-  where
-    evaluated : (t : Told) (e : Evaluating) → IsEvaluatedBy t e
-        → IsEvaluatedBy t (record e { options = with_number series.jobs k e.options })
-    evaluated (kinds.Answers answer steps) e is = is
-    evaluated kinds.Values e is = absurd is
-    evaluated (kinds.Orders name steps) e is = absurd is
-    evaluated (kinds.Ruled rule steps) e is = absurd is
-    evaluated (kinds.Bounds steps) e is = absurd is
-work_for series m k beside (Plan options layout steps) is = absurd is
-work_for series m k beside (Trace options style) is = absurd is
-work_for series m k beside (Check options answer) is = absurd is
-work_for series m k beside (Assess assessing) is = absurd is
-work_for series m k beside (Rate options source aids) is =
-    (options_for series m k options is.0, is.1, is.2)
-work_for series m k beside (Gantt answer drawing explain) is = absurd is
-work_for series m k beside (Picture picturing) is = absurd is
-work_for series m k beside (Random wanted) is = absurd is
-work_for series m k beside (Problems listed name) is = absurd is
-work_for series m k beside Border is = absurd is
+  options_for : (options : Options) → AreOptionsFor series own m options
+      → AreOptionsFor series file k (with_number jobs k options)
+  options_for options o = record {
+    problem = o.problem;
+    form = subst (λ form. IsFormFor form file k (InWt jobs k)) (sym wt) refl;
+    machines = o.machines;
+    input = o.input;
+    plain = o.plain;
+    unmeasured = o.unmeasured;
+  }
+
+  work_for : (beside : List ℕ) (work : Asking) → IsWorkFor series own m beside work
+      → IsWorkFor series file k beside (work_of jobs k work)
+  work_for beside (Solve options layout) is = (is.0, options_for options is.1, is.2)
+  work_for beside (Bound options steps) is = (is.0, options_for options is.1)
+  work_for beside (Evaluate evaluating) is =
+      (options_for evaluating.options is.0, evaluated_by series.told evaluating is.1)
+    where
+      evaluated_by : (t : Told) (e : Evaluating) → IsEvaluatedBy t e
+          → IsEvaluatedBy t (record e { options = with_number jobs k e.options })
+      evaluated_by (kinds.Answers answer aids) e is = is
+      evaluated_by kinds.Values e is = absurd is
+      evaluated_by (kinds.Orders name aids) e is = absurd is
+      evaluated_by (kinds.Ruled rule aids) e is = absurd is
+      evaluated_by (kinds.Bounds steps) e is = absurd is
+  work_for beside (Plan options layout steps) is = absurd is
+  work_for beside (Trace options style) is = absurd is
+  work_for beside (Check options answer) is = absurd is
+  work_for beside (Assess assessing) is =
+      (options_for assessing.options is.0, assessed_by series.told assessing is.1)
+    where
+      assessed_by : (t : Told) (a : Assessing) → IsAssessedBy t a
+          → IsAssessedBy t (record a { options = with_number jobs k a.options })
+      assessed_by (kinds.Answers answer aids) a is = is
+      assessed_by kinds.Values a is = absurd is
+      assessed_by (kinds.Orders name aids) a is = absurd is
+      assessed_by (kinds.Ruled rule aids) a is = absurd is
+      assessed_by (kinds.Bounds steps) a is = absurd is
+  work_for beside (Rate options source aids) is = (options_for options is.0, is.1)
+  work_for beside (Gantt answer drawing explain) is = absurd is
+  work_for beside (Picture picturing) is = absurd is
+  work_for beside (Random wanted) is = absurd is
+  work_for beside (Problems listed name) is = absurd is
+  work_for beside Border is = absurd is
+
+  -- no number of machines is wanted of a weighted tardiness file
+  whole_of : (form : FormOption) → form_asked form ≡ InWt jobs m → whole_name form ≡ None
+  whole_of Table is = cc
+  whole_of (Wt jobs index) is = refl
+  whole_of (Flow name pair) is = cc
+
+  unwanted : (options : Options) → AreOptionsFor series own m options → wants_count options ≡ false
+  unwanted options o =
+      ap (λ name. is_some name
+      && (is_none options.machines && is_uncounted_in (notation options.problem.now)))
+      (whole_of options.form (form_is options o))
+
+  uncounted : (beside : List ℕ) (work : Asking) → IsWorkFor series own m beside work
+      → asks_count (evaluated work) ≡ false
+  uncounted beside (Solve options layout) is = refl
+  uncounted beside (Bound options steps) is = refl
+  uncounted beside (Evaluate evaluating) is = unwanted evaluating.options is.0
+  uncounted beside (Plan options layout steps) is = absurd is
+  uncounted beside (Trace options style) is = refl
+  uncounted beside (Check options answer) is = refl
+  uncounted beside (Assess assessing) is = unwanted assessing.options is.0
+  uncounted beside (Rate options source aids) is = unwanted options is.0
+  uncounted beside (Gantt answer drawing explain) is = refl
+  uncounted beside (Picture picturing) is = refl
+  uncounted beside (Random wanted) is = refl
+  uncounted beside (Problems listed name) is = refl
+  uncounted beside Border is = refl
+
+-- work that wants no number is done as it is
+done_plain : (texts : Texts) (work : Asking) (writer : DeviceUse) (says : Bool → List ℕ → Type 0)
+    (status : ℕ) → asks_count (evaluated work) ≡ false
+    → EndsCounted texts work writer says status → Performs texts work writer says status
+done_plain texts work writer says status none (inl plain) = plain.1
+done_plain texts work writer says status none (inr (options, is, wants, ends)) =
+    absurd (true≢false (sym wants ∙ sym (ap asks_count is) ∙ none))
 
 -- ---- what was told
 
@@ -549,13 +600,39 @@ module _ (texts : Texts) (options : Options) (source : OrderSource) (aids : Aids
 
 -- ---- a command
 
-module _ (series : Series) (m : ℕ) (own answer : List ℕ) (writer : DeviceUse)
-    (says : Bool → List ℕ → Type 0) (status : ℕ) (told : has_told status ≡ true) where
+module _ (series : Series) (jobs : ℕ) (wt : series.form ≡ files.Wt jobs) (m : ℕ) (own : List ℕ)
+    (beside : BesideData) (writer : DeviceUse) (says : Bool → List ℕ → Type 0) (status : ℕ)
+    (told : has_told status ≡ true) (apart : IsNamedApart series.input.now series.told) where
   abbrev input : List ℕ
   input = series.input.now
 
+  abbrev bound : Option (List ℕ)
+  bound = bound_of series.told
+
   abbrev Ran : Asking → Type 0
-  Ran work = Performs (held_texts input own answer) work writer says status
+  Ran work = Performs (held_texts input own bound beside) work writer says status
+
+  wt_form : (options : Options) → AreOptionsFor series own m options
+      → form_asked options.form ≡ InWt jobs m
+  wt_form = form_is series jobs wt m m own own
+
+  -- there is no text of bounds
+  unaided : (t : Told) (line : List ℕ) (source : OrderSource) (aids : Aids) → bound_of t ≡ None
+      → IsRatedBy t line source aids → aids.bound ≡ None
+  unaided t line (sources.Given order detail) aids none (name, is, text, summary) =
+      none_mapped (λ (b : Bor (List ℕ)). b.now) aids.bound (sym (ap bound_of is) ∙ none)
+  unaided t line (sources.Ruled rule detail) aids none (is, more) =
+      none_mapped (λ (b : Bor (List ℕ)). b.now) aids.bound (sym (ap bound_of is) ∙ none)
+  unaided t line (sources.Named name goes_on is_numbered) aids none is = absurd is
+  unaided t line (sources.Drawn name detail) aids none is = absurd is
+
+  unassessed : (t : Told) (a : Assessing) → bound_of t ≡ None → IsAssessedBy t a → ⊥
+  unassessed (kinds.Answers answer aids) a none is =
+      true≢false (ap is_some (sym (ap (option_map (λ (b : Bor (List ℕ)). b.now)) is.2) ∙ none))
+  unassessed kinds.Values a none is = is
+  unassessed (kinds.Orders name aids) a none is = is
+  unassessed (kinds.Ruled rule aids) a none is = is
+  unassessed (kinds.Bounds steps) a none is = is
 
   -- orders are rated over an instance and a text that is known
   abbrev RatesBy : Options → OrderForm → List ℕ → DeviceUse → Type 0
@@ -564,61 +641,61 @@ module _ (series : Series) (m : ℕ) (own answer : List ℕ) (writer : DeviceUse
       × EndsRating Global form None (requested options Two) None instance reader writer
       (says options.telling.explain) status
 
-  rated_has : (options : Options) → AreOptionsFor series m options → (form : OrderForm)
+  rated_has : (options : Options) → AreOptionsFor series own m options → (form : OrderForm)
       (text : List ℕ)
-      → EndsOver (held_texts input own answer) options.input.now writer
+      → EndsOver (held_texts input own bound beside) options.input.now writer
       (says options.telling.explain) status (RatesBy options form text)
-      → HasInstance series own m
+      → HasInstance (files.Wt jobs) own m
   rated_has options is form text done =
-      let through = opened input options.input.now own answer is.input writer
+      let through = opened input options.input.now own bound beside is.input writer
       (says options.telling.explain) status (RatesBy options form text) done in
-      let run = told_orders series.jobs m status told writer (says options.telling.explain) options
-      Two is.form form through.0 through.2.0 through.2.2 in
-      orders_has options.problem.now options.machines Two series.jobs m own through.0 through.2.0 writer
+      let run = told_orders jobs m status told writer (says options.telling.explain) options
+      Two (wt_form options is) form through.0 through.2.0 through.2.2 in
+      orders_has options.problem.now options.machines Two jobs m own through.0 through.2.0 writer
       through.1 form run.0 run.1
 
   -- it told of an instance, so the text has it
-  ran_has : (work : Asking) → IsWorkFor series m answer work → Ran work → HasInstance series own m
+  ran_has : (work : Asking) → IsWorkFor series own m beside.answers work → Ran work → HasInstance (files.Wt jobs) own m
   ran_has (Solve options layout) is done =
-      let through = opened input options.input.now own answer is.1.input writer
+      let through = opened input options.input.now own bound beside is.1.input writer
       (says options.telling.explain) status
       (λ instance. EndsSolving Global (requested options layout) instance writer
       (says options.telling.explain) status) done in
-      let run = told_solving series.jobs m status told writer (says options.telling.explain) options
-      layout is.1.form through.0 through.2 in
-      solving_has options.problem.now options.machines layout series.jobs m own through.0 writer writer
+      let run = told_solving jobs m status told writer (says options.telling.explain) options
+      layout (wt_form options is.1) through.0 through.2 in
+      solving_has options.problem.now options.machines layout jobs m own through.0 writer writer
       through.1 run.0 run.1
   ran_has (Bound options steps) is done =
-      let through = opened input options.input.now own answer is.1.input writer
+      let through = opened input options.input.now own bound beside is.1.input writer
       (says options.telling.explain) status
       (λ instance. EndsBounding Global (requested options Two) instance writer
       (says options.telling.explain) status) done in
-      let run = told_bounding series.jobs m status told writer (says options.telling.explain) options
-      Two is.1.form through.0 through.2 in
-      bounding_has options.problem.now options.machines Two series.jobs m own through.0 writer writer
+      let run = told_bounding jobs m status told writer (says options.telling.explain) options
+      Two (wt_form options is.1) through.0 through.2 in
+      bounding_has options.problem.now options.machines Two jobs m own through.0 writer writer
       through.1 run.0 run.1
   ran_has (Evaluate evaluating) is done =
       let options = evaluating.options in
-      let through = opened_both input options.input.now own answer is.0.input evaluating.answer.now writer
+      let through = opened_both input options.input.now own bound beside is.0.input evaluating.answer.now writer
       (says options.telling.explain) status
       (λ instance other. EndsEvaluating Global evaluating.detail (requested options Two) instance other
       writer (says options.telling.explain) status) done in
-      let run = told_rating series.jobs m status told writer (says options.telling.explain) options
-      Two is.0.form evaluating.detail through.0 through.1 through.4 in
-      rating_has options.problem.now options.machines Two series.jobs m own through.0 through.1 writer
+      let run = told_rating jobs m status told writer (says options.telling.explain) options
+      Two (wt_form options is.0) evaluating.detail through.0 through.1 through.4 in
+      rating_has options.problem.now options.machines Two jobs m own through.0 through.1 writer
       through.2 evaluating.detail run.0 run.1
   ran_has (Plan options layout steps) is done = absurd is
   ran_has (Trace options style) is done = absurd is
   ran_has (Check options answer) is done = absurd is
-  ran_has (Assess assessing) is done = absurd is
+  ran_has (Assess assessing) is done = absurd (unassessed series.told assessing apart.0 is.1)
   ran_has (Rate options (sources.Given order detail) aids) is done =
       rated_has options is.0 (Single detail) order.now
-      (alone (held_texts input own answer) options (sources.Given order detail) aids writer says status
-      is.2 is.0.unmeasured done)
+      (alone (held_texts input own bound beside) options (sources.Given order detail) aids writer says status
+      (unaided series.told beside.answers (sources.Given order detail) aids apart.0 is.1) is.0.unmeasured done)
   ran_has (Rate options (sources.Ruled rule detail) aids) is done =
       rated_has options is.0 (ByRule rule detail) []
-      (alone (held_texts input own answer) options (sources.Ruled rule detail) aids writer says status
-      is.2 is.0.unmeasured done)
+      (alone (held_texts input own bound beside) options (sources.Ruled rule detail) aids writer says status
+      (unaided series.told beside.answers (sources.Ruled rule detail) aids apart.0 is.1) is.0.unmeasured done)
   ran_has (Rate options (sources.Named name goes_on is_numbered) aids) is done = absurd is.1
   ran_has (Rate options (sources.Drawn name detail) aids) is done = absurd is.1
   ran_has (Gantt answer drawing explain) is done = absurd is
@@ -628,68 +705,68 @@ module _ (series : Series) (m : ℕ) (own answer : List ℕ) (writer : DeviceUse
   ran_has Border is done = absurd is
 
   -- and it tells the same of an instance that another text has
-  module _ (k : ℕ) (file : List ℕ) (apart : IsNamedApart input series.told)
-      (same : weighted_tardiness series.jobs k file ≡ weighted_tardiness series.jobs m own) where
-    rated_again : (options : Options) → AreOptionsFor series m options → (form : OrderForm)
+  module _ (k : ℕ) (file : List ℕ)
+      (same : weighted_tardiness jobs k file ≡ weighted_tardiness jobs m own) where
+    rated_again : (options : Options) → AreOptionsFor series own m options → (form : OrderForm)
         (text : List ℕ)
-        → EndsOver (held_texts input own answer) options.input.now writer
+        → EndsOver (held_texts input own bound beside) options.input.now writer
         (says options.telling.explain) status (RatesBy options form text)
-        → EndsOver (held_texts input file answer) options.input.now writer
-        (says options.telling.explain) status (RatesBy (with_number series.jobs k options) form text)
+        → EndsOver (held_texts input file bound beside) options.input.now writer
+        (says options.telling.explain) status (RatesBy (with_number jobs k options) form text)
     rated_again options is form text done =
         let explain = options.telling.explain in
-        let through = opened input options.input.now own answer is.input writer (says explain) status
+        let through = opened input options.input.now own bound beside is.input writer (says explain) status
         (RatesBy options form text) done in
-        let run = told_orders series.jobs m status told writer (says explain) options Two is.form form
+        let run = told_orders jobs m status told writer (says explain) options Two (wt_form options is) form
         through.0 through.2.0 through.2.2 in
-        opens input options.input.now file answer is.input writer (says explain) status
-        (RatesBy (with_number series.jobs k options) form text)
+        opens input options.input.now file bound beside is.input writer (says explain) status
+        (RatesBy (with_number jobs k options) form text)
         (record through.0 { before = Some file }) refl (
           through.2.0,
           through.2.1,
           record {
             run = Ok run.0;
-            outcome = orders_again options.problem.now options.machines Two series.jobs m k own file
+            outcome = orders_again options.problem.now options.machines Two jobs m k own file
                 same through.0 through.2.0 writer through.1 form run.0 run.1;
             ends = run.2;
             said = run.3;
           },
         )
 
-    ran_again : (work : Asking) → IsWorkFor series m answer work → Ran work
-        → Performs (held_texts input file answer) (work_of series.jobs k work) writer says status
+    ran_again : (work : Asking) → IsWorkFor series own m beside.answers work → Ran work
+        → Performs (held_texts input file bound beside) (work_of jobs k work) writer says status
     ran_again (Solve options layout) is done =
         let explain = options.telling.explain in
-        let through = opened input options.input.now own answer is.1.input writer (says explain) status
+        let through = opened input options.input.now own bound beside is.1.input writer (says explain) status
         (λ instance. EndsSolving Global (requested options layout) instance writer (says explain)
         status) done in
-        let run = told_solving series.jobs m status told writer (says explain) options layout
-        is.1.form through.0 through.2 in
-        opens input options.input.now file answer is.1.input writer (says explain) status
-        (λ instance. EndsSolving Global (requested (with_number series.jobs k options) layout) instance
+        let run = told_solving jobs m status told writer (says explain) options layout
+        (wt_form options is.1) through.0 through.2 in
+        opens input options.input.now file bound beside is.1.input writer (says explain) status
+        (λ instance. EndsSolving Global (requested (with_number jobs k options) layout) instance
         writer (says explain) status)
         (record through.0 { before = Some file }) refl
         (record {
           run = Ok run.0;
-          outcome = solving_again options.problem.now options.machines layout series.jobs m k own file
+          outcome = solving_again options.problem.now options.machines layout jobs m k own file
               same through.0 writer writer through.1 run.0 run.1;
           ends = run.2;
           said = run.3;
         })
     ran_again (Bound options steps) is done =
         let explain = options.telling.explain in
-        let through = opened input options.input.now own answer is.1.input writer (says explain) status
+        let through = opened input options.input.now own bound beside is.1.input writer (says explain) status
         (λ instance. EndsBounding Global (requested options Two) instance writer (says explain)
         status) done in
-        let run = told_bounding series.jobs m status told writer (says explain) options Two
-        is.1.form through.0 through.2 in
-        opens input options.input.now file answer is.1.input writer (says explain) status
-        (λ instance. EndsBounding Global (requested (with_number series.jobs k options) Two) instance
+        let run = told_bounding jobs m status told writer (says explain) options Two
+        (wt_form options is.1) through.0 through.2 in
+        opens input options.input.now file bound beside is.1.input writer (says explain) status
+        (λ instance. EndsBounding Global (requested (with_number jobs k options) Two) instance
         writer (says explain) status)
         (record through.0 { before = Some file }) refl
         (record {
           run = Ok run.0;
-          outcome = bounding_again options.problem.now options.machines Two series.jobs m k own file
+          outcome = bounding_again options.problem.now options.machines Two jobs m k own file
               same through.0 writer writer through.1 run.0 run.1;
           ends = run.2;
           said = run.3;
@@ -697,54 +774,58 @@ module _ (series : Series) (m : ℕ) (own answer : List ℕ) (writer : DeviceUse
     ran_again (Evaluate evaluating) is done =
         let options = evaluating.options in
         let explain = options.telling.explain in
-        let through = opened_both input options.input.now own answer is.0.input evaluating.answer.now
+        let through = opened_both input options.input.now own bound beside is.0.input evaluating.answer.now
         writer (says explain) status
         (λ instance other. EndsEvaluating Global evaluating.detail (requested options Two) instance
         other writer (says explain) status) done in
-        let run = told_rating series.jobs m status told writer (says explain) options Two
-        is.0.form evaluating.detail through.0 through.1 through.4 in
-        opens_both input options.input.now file answer is.0.input evaluating.answer.now writer
+        let run = told_rating jobs m status told writer (says explain) options Two
+        (wt_form options is.0) evaluating.detail through.0 through.1 through.4 in
+        opens_both input options.input.now file bound beside is.0.input evaluating.answer.now writer
         (says explain) status
         (λ instance other. EndsEvaluating Global evaluating.detail
-        (requested (with_number series.jobs k options) Two) instance other writer (says explain)
+        (requested (with_number jobs k options) Two) instance other writer (says explain)
         status)
         (record through.0 { before = Some file }) through.1 refl
-        (through.3 ∙ answer_is series.told evaluating is.1 apart)
+        (through.3 ∙ answer_is series.told evaluating is.1 apart.1)
         (record {
           run = Ok run.0;
-          outcome = rating_again options.problem.now options.machines Two series.jobs m k own file
+          outcome = rating_again options.problem.now options.machines Two jobs m k own file
               same through.0 through.1 writer through.2 evaluating.detail run.0 run.1;
           ends = run.2;
           said = run.3;
         })
       where
-        answer_is : (t : Told) (e : Evaluating) → IsEvaluatedBy t e → IsNamedApart input t
-            → ◌≡◌ {A = Option (List ℕ)} (Some (cond (bytes_eq e.answer.now input) own answer))
-            (Some (cond (bytes_eq e.answer.now input) file answer))
-        answer_is (kinds.Answers name steps) e by differ =
+        answer_is : (t : Told) (e : Evaluating) → IsEvaluatedBy t e → IsAnsweredApart input t
+            → ◌≡◌ {A = Option (List ℕ)} (Some (cond (bytes_eq e.answer.now input) own (named_beside bound beside e.answer.now)))
+            (Some (cond (bytes_eq e.answer.now input) file (named_beside bound beside e.answer.now)))
+        answer_is (kinds.Answers name aids) e by differ =
             let other : bytes_eq e.answer.now input ≡ false =
             ap (λ n. bytes_eq n input) by.0 ∙ differ in
-            ap (λ b. Some (cond b own answer)) other ∙ sym (ap (λ b. Some (cond b file answer)) other)
+            ap (λ b. Some (cond b own (named_beside bound beside e.answer.now))) other
+            ∙ sym (ap (λ b. Some (cond b file (named_beside bound beside e.answer.now))) other)
         answer_is kinds.Values e by differ = absurd by
         answer_is (kinds.Bounds steps) e by differ = absurd by
-        answer_is (kinds.Orders name steps) e by differ = absurd by
-        answer_is (kinds.Ruled rule steps) e by differ = absurd by
+        answer_is (kinds.Orders name aids) e by differ = absurd by
+        answer_is (kinds.Ruled rule aids) e by differ = absurd by
     ran_again (Plan options layout steps) is done = absurd is
     ran_again (Trace options style) is done = absurd is
     ran_again (Check options answer) is done = absurd is
-    ran_again (Assess assessing) is done = absurd is
+    ran_again (Assess assessing) is done =
+        absurd (unassessed series.told assessing apart.0 is.1)
     ran_again (Rate options (sources.Given order detail) aids) is done =
-        aided (held_texts input file answer) (with_number series.jobs k options)
-        (sources.Given order detail) aids writer says status is.2 is.0.unmeasured
+        aided (held_texts input file bound beside) (with_number jobs k options)
+        (sources.Given order detail) aids writer says status
+        (unaided series.told beside.answers (sources.Given order detail) aids apart.0 is.1) is.0.unmeasured
         (rated_again options is.0 (Single detail) order.now
-        (alone (held_texts input own answer) options (sources.Given order detail) aids writer says
-        status is.2 is.0.unmeasured done))
+        (alone (held_texts input own bound beside) options (sources.Given order detail) aids writer says
+        status (unaided series.told beside.answers (sources.Given order detail) aids apart.0 is.1) is.0.unmeasured done))
     ran_again (Rate options (sources.Ruled rule detail) aids) is done =
-        aided (held_texts input file answer) (with_number series.jobs k options)
-        (sources.Ruled rule detail) aids writer says status is.2 is.0.unmeasured
+        aided (held_texts input file bound beside) (with_number jobs k options)
+        (sources.Ruled rule detail) aids writer says status
+        (unaided series.told beside.answers (sources.Ruled rule detail) aids apart.0 is.1) is.0.unmeasured
         (rated_again options is.0 (ByRule rule detail) []
-        (alone (held_texts input own answer) options (sources.Ruled rule detail) aids writer says
-        status is.2 is.0.unmeasured done))
+        (alone (held_texts input own bound beside) options (sources.Ruled rule detail) aids writer says
+        status (unaided series.told beside.answers (sources.Ruled rule detail) aids apart.0 is.1) is.0.unmeasured done))
     ran_again (Rate options (sources.Named name goes_on is_numbered) aids) is done = absurd is.1
     ran_again (Rate options (sources.Drawn name detail) aids) is done = absurd is.1
     ran_again (Gantt answer drawing explain) is done = absurd is
@@ -755,63 +836,86 @@ module _ (series : Series) (m : ℕ) (own answer : List ℕ) (writer : DeviceUse
 
 -- ---- a run in memory
 
-pub runs_has : (series : Series) (text answer : List ℕ) (k status : ℕ) (output errors : List ℕ)
-    → has_told status ≡ true → RunsFor series text answer k status output errors
-    → HasInstance series text k
-runs_has series text answer k status output errors told r =
-    ran_has series k text answer (use_of held r.before.writer r.after.writer)
-    (λ explain. SaysLine held explain r.before.errors r.after.errors) status told r.work r.is r.done
+pub runs_has : (series : Series) (text : List ℕ) (beside : BesideData) (k status : ℕ)
+    (output errors : List ℕ) → IsNamedApart series.input.now series.told
+    → has_told status ≡ true → RunsFor series text beside k status output errors
+    → HasInstance series.form text k
+runs_has series text beside k status output errors apart told r = by series.form refl
+  where
+    by : (form : FileForm) → series.form ≡ form → HasInstance form text k
+    by (files.Flow pair) is = tt
+    by (files.Wt jobs) wt =
+        ran_has series jobs wt k text beside (use_of held r.before.writer r.after.writer)
+        (λ explain. SaysLine held explain r.before.errors r.after.errors) status told apart r.work r.is
+        (done_plain (held_texts series.input.now text (bound_of series.told) beside) r.work
+        (use_of held r.before.writer r.after.writer)
+        (λ explain. SaysLine held explain r.before.errors r.after.errors) status
+        (uncounted series jobs wt k k text text beside.answers r.work r.is) r.done)
 
 -- Where the words of the next instance stand by themselves, what is told of them alone is what is
 -- told of that instance.
-pub runs_again : (series : Series) (file own ahead answer : List ℕ) (k status : ℕ)
-    (output errors : List ℕ) → AreParts series file k own ahead
+pub runs_again : (series : Series) (file own ahead : List ℕ) (beside : BesideData) (k status : ℕ)
+    (output errors : List ℕ) → AreParts series.form file k own ahead
     → IsNamedApart series.input.now series.told → has_told status ≡ true
-    → RunsFor series own answer 1 status output errors
-    → RunsFor series file answer k status output errors
-runs_again series file own ahead answer k status output errors parts apart told r =
-    let has = runs_has series own answer 1 status output errors told r in
-    let some : 1 ≤ k - 1 = instance_index series.jobs (k - 1) file parts.0.0 parts.0.1 in
-    let next : weighted_tardiness series.jobs (k - 1 + 1) file ≡ Ok has.0 =
-    next_instance series.jobs (k - 1) file own parts.0.0 has.0 parts.0.1 parts.1 has.1 in
-    let here : k - 1 + 1 ≡ k = omega (arith, some) in
-    let same : weighted_tardiness series.jobs k file ≡ weighted_tardiness series.jobs 1 own =
-    ap (λ n. weighted_tardiness series.jobs n file) (sym here) ∙ next ∙ sym has.1 in
-    record {
-      work = work_of series.jobs k r.work;
-      is = work_for series 1 k answer r.work r.is;
-      before = r.before;
-      after = r.after;
-      blank = r.blank;
-      silent = r.silent;
-      done = ran_again series 1 own answer (use_of held r.before.writer r.after.writer)
-          (λ explain. SaysLine held explain r.before.errors r.after.errors) status told k file apart same
-          r.work r.is r.done;
-      whole = r.whole;
-      told = r.told;
-      output_is = r.output_is;
-      errors_is = r.errors_is;
-    }
+    → RunsFor series own beside 1 status output errors
+    → RunsFor series file beside k status output errors
+runs_again series file own ahead beside k status output errors parts apart told r =
+    by series.form refl parts
+  where
+    by : (form : FileForm) → series.form ≡ form → AreParts form file k own ahead
+        → RunsFor series file beside k status output errors
+    by (files.Flow pair) is parts = absurd parts
+    by (files.Wt jobs) wt parts =
+        let writer = use_of held r.before.writer r.after.writer in
+        let says = λ (explain : Bool). SaysLine held explain r.before.errors r.after.errors in
+        let done = done_plain (held_texts series.input.now own (bound_of series.told) beside) r.work
+        writer says status (uncounted series jobs wt 1 1 own own beside.answers r.work r.is) r.done in
+        let has = ran_has series jobs wt 1 own beside writer says status told apart r.work r.is done in
+        let some : 1 ≤ k - 1 = instance_index jobs (k - 1) file parts.0.0 parts.0.1 in
+        let next : weighted_tardiness jobs (k - 1 + 1) file ≡ Ok has.0 =
+        next_instance jobs (k - 1) file own parts.0.0 has.0 parts.0.1 parts.1 has.1 in
+        let here : k - 1 + 1 ≡ k = omega (arith, some) in
+        let same : weighted_tardiness jobs k file ≡ weighted_tardiness jobs 1 own =
+        ap (λ n. weighted_tardiness jobs n file) (sym here) ∙ next ∙ sym has.1 in
+        let is = work_for series jobs wt 1 k own file beside.answers r.work r.is in
+        record {
+          work = work_of jobs k r.work;
+          is = is;
+          before = r.before;
+          after = r.after;
+          blank = r.blank;
+          silent = r.silent;
+          done = inl (
+            uncounted series jobs wt k k file file beside.answers (work_of jobs k r.work) is,
+            ran_again series jobs wt 1 own beside writer says status told apart k file same r.work
+                r.is done,
+          );
+          whole = r.whole;
+          told = r.told;
+          output_is = r.output_is;
+          errors_is = r.errors_is;
+        }
 
 -- ---- where the words stand
 
-pub parts_are : (series : Series) (text ahead own rest : List ℕ) (k : ℕ)
-    → IsBehind series text (k - 1) ahead → words own ≡ take (3 * series.jobs) (words ahead)
-    → words rest ≡ drop (3 * series.jobs) (words ahead) → AreParts series text k own rest
-parts_are series text ahead own rest k is front back = (
+pub parts_are : (jobs : ℕ) (text ahead own rest : List ℕ) (k : ℕ)
+    → IsBehind (files.Wt jobs) text (k - 1) ahead → words own ≡ take (3 * jobs) (words ahead)
+    → words rest ≡ drop (3 * jobs) (words ahead) → AreParts (files.Wt jobs) text k own rest
+parts_are jobs text ahead own rest k is front back = (
   is.0,
-  front ∙ ap (take (3 * series.jobs)) is.1,
-  back ∙ ap (drop (3 * series.jobs)) is.1,
+  front ∙ ap (take (3 * jobs)) is.1,
+  back ∙ ap (drop (3 * jobs)) is.1,
 )
 
-pub behind_parts : (series : Series) (text own ahead : List ℕ) (k : ℕ)
-    → HasInstance series text k → AreParts series text k own ahead → IsBehind series text k ahead
-behind_parts series text own ahead k has parts =
-    let some : 1 ≤ k - 1 = instance_index series.jobs (k - 1) text parts.0.0 parts.0.1 in
-    let far : 3 * series.jobs * (k - 1) + 3 * series.jobs ≡ 3 * series.jobs * k =
-    sizes (3 * series.jobs) k (omega (arith, some)) in (
+pub behind_parts : (jobs : ℕ) (text own ahead : List ℕ) (k : ℕ)
+    → HasInstance (files.Wt jobs) text k → AreParts (files.Wt jobs) text k own ahead
+    → IsBehind (files.Wt jobs) text k ahead
+behind_parts jobs text own ahead k has parts =
+    let some : 1 ≤ k - 1 = instance_index jobs (k - 1) text parts.0.0 parts.0.1 in
+    let far : 3 * jobs * (k - 1) + 3 * jobs ≡ 3 * jobs * k =
+    sizes (3 * jobs) k (omega (arith, some)) in (
       has,
-      parts.2 ∙ drop-drop (3 * series.jobs) (3 * series.jobs * (k - 1)) (words text)
+      parts.2 ∙ drop-drop (3 * jobs) (3 * jobs * (k - 1)) (words text)
           ∙ ap (λ n. drop n (words text)) far,
     )
   where
@@ -821,11 +925,15 @@ behind_parts series text own ahead k has parts =
         sym (let all : size * (n - 1 + 1) ≡ size * (n - 1) + size = omega arith in
         ap (λ i. size * i) (sym one) ∙ all)
 
--- a number of words that 64 bits hold
-pub count_within : (series : Series) (text : List ℕ) (k : ℕ) → HasInstance series text k
-    → k < 4294967296 → 3 * series.jobs * k ≤ 1288490188800000
-count_within series text k has few =
-    let jobs : series.jobs ≤ 100000 = instance_jobs series.jobs k text has.0 has.1 in
-    let first : 3 * series.jobs ≤ 300000 = omega (arith, jobs) in
+-- numbers of words that 64 bits hold
+pub jobs_within : (jobs : ℕ) (text : List ℕ) (k : ℕ) → HasInstance (files.Wt jobs) text k
+    → 3 * jobs ≤ 300000
+jobs_within jobs text k has =
+    let most : jobs ≤ 100000 = instance_jobs jobs k text has.0 has.1 in omega (arith, most)
+
+pub count_within : (jobs : ℕ) (text : List ℕ) (k : ℕ) → HasInstance (files.Wt jobs) text k
+    → k < 4294967296 → 3 * jobs * k ≤ 1288490188800000
+count_within jobs text k has few =
+    let first : 3 * jobs ≤ 300000 = jobs_within jobs text k has in
     let second : k ≤ 4294967296 = omega (arith, few) in
     mul-le-mul first second

@@ -1,4 +1,5 @@
 pub mod AnswerTexts
+pub mod Names
 pub mod Told
 pub mod Cuts
 pub mod Numbered

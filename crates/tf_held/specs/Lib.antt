@@ -1,6 +1,7 @@
 -- what a caller has to believe
 pub mod Texts
 pub mod AnswerTexts
+pub mod Headings
 pub mod Series
 pub mod Measured
 pub mod Shops

@@ -1,5 +1,5 @@
--- What is told of each of several instances of a weighted tardiness file.
-use Rattle.std.specs.Prelude.{◌≡◌, ◌⊎◌, ℕ, ◌+◌, ◌<◌, ◌≤◌, max, Bool, true, false, ◌||◌, ◌==◌, List, [], ◌∷◌, ◌++◌, length, take, Option, None, Some, IfSome, IsUtf8, codes, if◌then◌else◌}
+-- What is told of each of several instances of a file.
+use Rattle.std.specs.Prelude.{◌≡◌, ◌⊎◌, ℕ, ◌+◌, ◌<◌, ◌≤◌, max, Bool, true, false, ◌||◌, ◌==◌, List, [], ◌∷◌, ◌++◌, length, take, Option, None, Some, option_map, IfSome, IsUtf8, codes, if◌then◌else◌}
 use Rattle.std.specs.List.{flat_map}
 use Rattle.std.specs.Fmt.{decimal}
 use Rattle.std.specs.Borrow.{Bor}
@@ -8,7 +8,7 @@ use Rattle.tf_text.specs.AnswerText.{line_text}
 use Rattle.tf_text.specs.Counted.{AppendsPrefix, DeviceUse, inner_of, has_failed, use_of}
 use Rattle.tf_text.specs.Input.{IsTextOf}
 use Rattle.tf_text.specs.declared.answer.layout.Layout.TheVariants.{One, Two}
-use Rattle.tf_engine.specs.FormData.{InWt}
+use Rattle.tf_engine.specs.FormData.{FormData, InWt, InFlow}
 use Rattle.tf_evaluate.specs.declared.evaluation.Detail.TheVariants.{Summary}
 use Rattle.tf_export.specs.Documents.{json_of}
 use Rattle.tf_export.specs.Entry.{entry}
@@ -17,82 +17,111 @@ use Rattle.tf_export.specs.declared.documents.Document.{Document}
 use Rattle.tf_export.specs.declared.documents.Document.TheVariants as documents
 use Rattle.tf_asked.specs.declared.format.Format.TheVariants.{Json}
 use Rattle.tf_asked.specs.Asking.{form_asked}
+use Rattle.tf_asked.specs.declared.aids.Aids.{Aids}
+use Rattle.tf_asked.specs.declared.options.Assessing.{Assessing}
 use Rattle.tf_asked.specs.declared.options.Evaluating.{Evaluating}
 use Rattle.tf_asked.specs.declared.options.Options.{Options}
 use Rattle.tf_asked.specs.declared.options.OrderSource.{OrderSource}
 use Rattle.tf_asked.specs.declared.options.OrderSource.TheVariants as sources
 use Rattle.tf_asked.specs.declared.options.Work.{Work as Asking}
-use Rattle.tf_asked.specs.declared.options.Work.TheVariants.{Solve, Bound, Evaluate, Rate}
+use Rattle.tf_asked.specs.declared.options.Work.TheVariants.{Solve, Bound, Evaluate, Assess, Rate}
+use Rattle.tf_asked.specs.declared.series.FileForm.{FileForm}
+use Rattle.tf_asked.specs.declared.series.FileForm.TheVariants.{Wt, Flow}
 use Rattle.tf_asked.specs.declared.series.Series.{Series}
 use Rattle.tf_asked.specs.declared.series.Told.{Told}
 use Rattle.tf_asked.specs.declared.series.Told.TheVariants.{Values, Bounds, Answers, Orders, Ruled}
 use Rattle.tf_command.specs.Ending.{SaysLine}
 use Rattle.tf_command.specs.Formatted.{Memory, device_line, held, memory_line}
-use Rattle.tf_command.specs.Performing.{Performs}
 use Rattle.tf_command.specs.Unread.{Texts}
-use Rattle.tf_held.specs.AnswerTexts.{IsNextFor}
+use Rattle.tf_held.specs.AnswerTexts.{AreNext}
+use Rattle.tf_held.specs.Headings.{name_at}
+use Rattle.tf_held.specs.Shops.{EndsCounted}
 use Rattle.tf_command.specs.Unread.{IsUnread}
 use Rattle.tf_command.specs.Wrote.{Wrote}
 use Rattle.tf_text.specs.declared.counted.Counted.{Counted}
-use Rattle.tf_held.specs.Texts.{held_texts}
+use Rattle.tf_held.specs.Texts.{BesideData, held_texts}
 use Rattle.tf_held.specs.declared.series.Stop.{Stop}
 use Rattle.tf_held.specs.declared.series.Stop.TheVariants as stops
 
 -- ---- one instance
 
--- the options that name the instance of this number alone, and tell and explain no more of it
-pub record AreOptionsFor (series : Series) (number : ℕ) (options : Options) : Type 0 where
+-- the text that these bytes are: all of them, or nothing where they are no text in UTF-8
+abbrev pub IsTextIn : List ℕ → List ℕ → Type 0
+IsTextIn bytes text = (text ≡ bytes) ⊎ ((¬ (IsUtf8 bytes)) × (text ≡ []))
+
+-- the form that names the instance of this number of a file alone
+abbrev pub IsFormFor : FileForm → List ℕ → ℕ → FormData → Type 0
+IsFormFor (Wt jobs) text number form = form ≡ InWt jobs number
+IsFormFor (Flow pair) text number form =
+    (name : List ℕ) × IsTextIn (name_at text number) name × (form ≡ InFlow name pair)
+
+-- the options that name it, and tell and explain no more of it
+pub record AreOptionsFor (series : Series) (instance : List ℕ) (number : ℕ) (options : Options)
+    : Type 0 where
   pub problem : options.problem.now ≡ series.problem.now
-  pub form : form_asked options.form ≡ InWt series.jobs number
+  pub form : IsFormFor series.form instance number (form_asked options.form)
   pub machines : options.machines ≡ series.machines
   pub input : options.input.now ≡ series.input.now
   pub plain : options.telling.explain ≡ false
   pub unmeasured : options.telling.measures ≡ false
 
--- an answer is evaluated by text alone
+-- an answer is evaluated by text alone, or beside a bound
 abbrev pub IsEvaluatedBy : Told → Evaluating → Type 0
-IsEvaluatedBy (Answers answer steps) evaluating =
-    (evaluating.answer.now ≡ answer.now) × (evaluating.detail ≡ Summary) × (evaluating.steps ≡ steps)
+IsEvaluatedBy (Answers answer aids) evaluating =
+    (evaluating.answer.now ≡ answer.now) × (evaluating.detail ≡ Summary)
+    × (evaluating.steps ≡ aids.steps) × (aids.bound ≡ None)
 IsEvaluatedBy _ evaluating = ⊥
 
--- an order that a line says: the line, or nothing where it is no text in UTF-8
-abbrev pub IsOrderIn : List ℕ → List ℕ → Type 0
-IsOrderIn line order = (order ≡ line) ⊎ ((¬ (IsUtf8 line)) × (order ≡ []))
+abbrev pub IsAssessedBy : Told → Assessing → Type 0
+IsAssessedBy (Answers answer aids) assessing =
+    (assessing.answer.now ≡ answer.now) × (assessing.steps ≡ aids.steps)
+    × (aids.bound ≡ Some assessing.bound)
+IsAssessedBy _ assessing = ⊥
 
--- the order of a line, or that of a rule, is evaluated by text alone, after so many steps
-abbrev pub IsRatedBy : Told → List ℕ → OrderSource → Option ℕ → Type 0
-IsRatedBy told line (sources.Given order detail) steps =
-    (name : Bor (List ℕ)) × (told ≡ Orders name steps) × IsOrderIn line order.now
+-- the order of a line, or that of a rule, is evaluated by text alone, by the same aids
+abbrev pub IsRatedBy : Told → List ℕ → OrderSource → Aids → Type 0
+IsRatedBy told line (sources.Given order detail) aids =
+    (name : Bor (List ℕ)) × (told ≡ Orders name aids) × IsTextIn line order.now
     × (detail ≡ Summary)
-IsRatedBy told line (sources.Ruled rule detail) steps =
-    (told ≡ Ruled rule steps) × (detail ≡ Summary)
-IsRatedBy told line _ steps = ⊥
+IsRatedBy told line (sources.Ruled rule detail) aids =
+    (told ≡ Ruled rule aids) × (detail ≡ Summary)
+IsRatedBy told line _ aids = ⊥
 
 -- the work of the command that is about the instance of this number alone, beside an answer, or the
 -- line of an order
-abbrev pub IsWorkFor : Series → ℕ → List ℕ → Asking → Type 0
-IsWorkFor series number answer (Solve options layout) =
-    (series.told ≡ Values) × AreOptionsFor series number options
+abbrev pub IsWorkFor : Series → List ℕ → ℕ → List ℕ → Asking → Type 0
+IsWorkFor series instance number answer (Solve options layout) =
+    (series.told ≡ Values) × AreOptionsFor series instance number options
     × (layout ≡ (if series.json then One else Two))
-IsWorkFor series number answer (Bound options steps) =
-    (series.told ≡ Bounds steps) × AreOptionsFor series number options
-IsWorkFor series number answer (Evaluate evaluating) =
-    AreOptionsFor series number evaluating.options × IsEvaluatedBy series.told evaluating
-IsWorkFor series number answer (Rate options source aids) =
-    AreOptionsFor series number options × IsRatedBy series.told answer source aids.steps
-    × (aids.bound ≡ None)
-IsWorkFor series number answer _ = ⊥
+IsWorkFor series instance number answer (Bound options steps) =
+    (series.told ≡ Bounds steps) × AreOptionsFor series instance number options
+IsWorkFor series instance number answer (Evaluate evaluating) =
+    AreOptionsFor series instance number evaluating.options × IsEvaluatedBy series.told evaluating
+IsWorkFor series instance number answer (Assess assessing) =
+    AreOptionsFor series instance number assessing.options × IsAssessedBy series.told assessing
+IsWorkFor series instance number answer (Rate options source aids) =
+    AreOptionsFor series instance number options × IsRatedBy series.told answer source aids
+IsWorkFor series instance number answer _ = ⊥
 
--- that work was done over the file and an answer, and this is what it wrote in memory
-pub record RunsFor (series : Series) (instance answer : List ℕ) (number status : ℕ)
+-- the name of the text of bounds, if there is one
+abbrev pub bound_of : Told → Option (List ℕ)
+bound_of (Answers name aids) = option_map (λ bound. bound.now) aids.bound
+bound_of (Orders name aids) = option_map (λ bound. bound.now) aids.bound
+bound_of (Ruled rule aids) = option_map (λ bound. bound.now) aids.bound
+bound_of _ = None
+
+-- that work was done over the file and the texts beside it, a shop that has no number of machines as
+-- one of as many as the file has, and this is what it wrote in memory
+pub record RunsFor (series : Series) (instance : List ℕ) (beside : BesideData) (number status : ℕ)
     (output errors : List ℕ) : Type 0 where
   pub work : Asking
-  pub is : IsWorkFor series number answer work
+  pub is : IsWorkFor series instance number beside.answers work
   pub before : Memory
   pub after : Memory
   pub blank : (inner_of before.writer).items ≡ []
   pub silent : (inner_of before.errors).items ≡ []
-  pub done : Performs (held_texts series.input.now instance answer) work
+  pub done : EndsCounted
+      (held_texts series.input.now instance (bound_of series.told) beside) work
       (use_of held before.writer after.writer)
       (λ explain. SaysLine held explain before.errors after.errors) status
   pub whole : has_failed after.writer ≡ false
@@ -120,36 +149,51 @@ line_for series number output =
     else entry number output
 
 -- the line of an instance
-pub record IsEntry (series : Series) (instance answer : List ℕ) (number : ℕ) (line : List ℕ) : Type 0
-  where
-    pub status : ℕ
-    pub output : List ℕ
-    pub errors : List ℕ
-    pub runs : RunsFor series instance answer number status output errors
-    pub told : has_told status ≡ true
-    pub is : line ≡ line_for series number output
+pub record IsEntry (series : Series) (instance : List ℕ) (beside : BesideData) (number : ℕ)
+    (line : List ℕ) : Type 0 where
+  pub status : ℕ
+  pub output : List ℕ
+  pub errors : List ℕ
+  pub runs : RunsFor series instance beside number status output errors
+  pub told : has_told status ≡ true
+  pub is : line ≡ line_for series number output
 
--- the command ended for the instance of this number and this answer without telling, and said this
-pub record EndsUntold (series : Series) (instance answer : List ℕ) (number status : ℕ)
+-- the command ended for the instance of this number and these texts without telling, and said this
+pub record EndsUntold (series : Series) (instance : List ℕ) (beside : BesideData) (number status : ℕ)
     (errors : List ℕ) : Type 0 where
   pub output : List ℕ
-  pub runs : RunsFor series instance answer number status output errors
+  pub runs : RunsFor series instance beside number status output errors
   pub untold : has_told status ≡ false
 
 -- what is said where there is no such instance
 abbrev pub no_instance : List ℕ
 no_instance = codes "threefield: refused: NoInstance\n"
 
+-- the same series without its text of bounds
+abbrev pub plain : Told → Told
+plain (Answers name aids) = Answers name (record aids { bound = None })
+plain (Orders name aids) = Orders name (record aids { bound = None })
+plain (Ruled rule aids) = Ruled rule (record aids { bound = None })
+plain told = told
+
+abbrev pub without_bound : Series → Series
+without_bound series = record series { told = plain series.told }
+
+-- the file has no instance of this number, which is said without a bound
+abbrev pub IsPast : Series → List ℕ → BesideData → ℕ → Type 0
+IsPast series instance beside number =
+    (status : ℕ) × EndsUntold (without_bound series) instance beside number status no_instance
+
 -- what was kept tells of the instance of this number; or a series to the end of the file has come to
 -- that
-abbrev pub Tells : Series → List ℕ → List ℕ → ℕ → Option Memory → Type 0
-Tells series instance answer number (Some kept) =
+abbrev pub Tells : Series → List ℕ → BesideData → ℕ → Option Memory → Type 0
+Tells series instance beside number (Some kept) =
     (status : ℕ) × (errors : List ℕ)
-    × RunsFor series instance answer number status (inner_of kept.writer).items errors
+    × RunsFor series instance beside number status (inner_of kept.writer).items errors
     × (has_told status ≡ true)
-Tells series instance answer number None =
+Tells series instance beside number None =
     (series.span.last ≡ None) × (series.span.first < number)
-    × ((status : ℕ) × EndsUntold series instance answer number status no_instance)
+    × IsPast series instance beside number
 
 -- the line that names an instance
 abbrev pub instance_line : ℕ → List ℕ
@@ -161,11 +205,11 @@ said_for series number errors =
     if series.json then fault_json (Some number) errors else errors ++ instance_line number
 
 -- why there is no line of the instance of this number
-abbrev pub IsStopAt : Series → List ℕ → List ℕ → ℕ → Stop → Type 0
-IsStopAt series instance answer number stops.Memory = Unit {0}
-IsStopAt series instance answer number stops.Unwritten = ⊥
-IsStopAt series instance answer number (stops.Ended status said) =
-    (errors : List ℕ) × EndsUntold series instance answer number status errors
+abbrev pub IsStopAt : Series → List ℕ → BesideData → ℕ → Stop → Type 0
+IsStopAt series instance beside number stops.Memory = Unit {0}
+IsStopAt series instance beside number stops.Unwritten = ⊥
+IsStopAt series instance beside number (stops.Ended status said) =
+    (errors : List ℕ) × EndsUntold series instance beside number status errors
     × (said.items ≡ said_for series number errors)
 
 -- why the line of an instance was not written
@@ -177,13 +221,13 @@ IsUnwritten writer line (stops.Ended status said) = ⊥
 
 -- ---- all of them
 
--- lines of the instances from this number on, by the answers or orders that stand one after the other
--- in a text, and what is left of that text
-abbrev pub AreEntries : Series → List ℕ → ℕ → List ℕ → List (List ℕ) → List ℕ → Type 0
-AreEntries series instance number answers [] rest = answers ≡ rest
-AreEntries series instance number answers (line ∷ lines) rest =
-    (answer : List ℕ) × (after : List ℕ) × IsNextFor series.told answers answer after
-    × IsEntry series instance answer number line
+-- lines of the instances from this number on, by the answers or orders, and the bounds, that stand one
+-- after the other in texts, and what is left of these
+abbrev pub AreEntries : Series → List ℕ → ℕ → BesideData → List (List ℕ) → BesideData → Type 0
+AreEntries series instance number texts [] rest = texts ≡ rest
+AreEntries series instance number texts (line ∷ lines) rest =
+    (beside : BesideData) × (after : BesideData) × AreNext series.told texts beside after
+    × IsEntry series instance beside number line
     × AreEntries series instance (number + 1) after lines rest
 
 -- texts one after the other
@@ -191,64 +235,64 @@ abbrev pub joined : List (List ℕ) → List ℕ
 joined texts = flat_map (λ text. text) texts
 
 -- the instances before this number are all that are asked for: the last one was named, or the file
--- has no more, which was said of the answer that follows
-abbrev pub IsAll : Series → List ℕ → List ℕ → Option ℕ → ℕ → Type 0
+-- has no more
+abbrev pub IsAll : Series → List ℕ → BesideData → Option ℕ → ℕ → Type 0
 IsAll series instance rest (Some last) next = next ≡ max series.span.first (last + 1)
 IsAll series instance rest None next =
     (next ≡ max series.span.first 4294967296)
     ⊎ ((series.span.first < next)
-    × ((answer : List ℕ) × (after : List ℕ) × IsNextFor series.told rest answer after
-    × ((status : ℕ) × EndsUntold series instance answer next status no_instance)))
+    × ((beside : BesideData) × (after : BesideData) × AreNext series.told rest beside after
+    × IsPast series instance beside next))
 
 -- a line of each was written, in their order
-pub record WritesAll (series : Series) (instance answers : List ℕ) (writer : DeviceUse) : Type 0
-  where
-    pub lines : List (List ℕ)
-    pub rest : List ℕ
-    pub entries : AreEntries series instance series.span.first answers lines rest
-    pub all : IsAll series instance rest series.span.last (series.span.first + length lines)
-    pub written : Appends writer.before writer.after (joined lines)
+pub record WritesAll (series : Series) (instance : List ℕ) (texts : BesideData) (writer : DeviceUse)
+    : Type 0 where
+  pub lines : List (List ℕ)
+  pub rest : BesideData
+  pub entries : AreEntries series instance series.span.first texts lines rest
+  pub all : IsAll series instance rest series.span.last (series.span.first + length lines)
+  pub written : Appends writer.before writer.after (joined lines)
 
 -- ---- the first of them alone
 
--- the instances before have these lines, and the one that follows them is asked for, with this answer
-pub record IsCutAt (series : Series) (instance answers : List ℕ) (lines : List (List ℕ))
-    (answer : List ℕ) : Type 0 where
-  pub rest : List ℕ
-  pub entries : AreEntries series instance series.span.first answers lines rest
+-- the instances before have these lines, and the one that follows them is asked for, beside these texts
+pub record IsCutAt (series : Series) (instance : List ℕ) (texts : BesideData)
+    (lines : List (List ℕ)) (beside : BesideData) : Type 0 where
+  pub rest : BesideData
+  pub entries : AreEntries series instance series.span.first texts lines rest
   pub asked : IfSome series.span.last (λ last. series.span.first + length lines ≤ last)
-  pub after : List ℕ
-  pub next : IsNextFor series.told rest answer after
+  pub after : BesideData
+  pub next : AreNext series.told rest beside after
 
 -- the lines before an instance that has none were written
-pub record IsStopped (series : Series) (instance answers : List ℕ) (writer : DeviceUse)
+pub record IsStopped (series : Series) (instance : List ℕ) (texts : BesideData) (writer : DeviceUse)
     (stop : Stop) : Type 0 where
   pub lines : List (List ℕ)
-  pub answer : List ℕ
-  pub cut : IsCutAt series instance answers lines answer
-  pub is : IsStopAt series instance answer (series.span.first + length lines) stop
+  pub beside : BesideData
+  pub cut : IsCutAt series instance texts lines beside
+  pub is : IsStopAt series instance beside (series.span.first + length lines) stop
   pub written : Appends writer.before writer.after (joined lines)
 
 -- the device failed within the line of an instance: the lines before it were written, and a part of it
-pub record IsCutOff (series : Series) (instance answers : List ℕ) (writer : DeviceUse) : Type 0 where
+pub record IsCutOff (series : Series) (instance : List ℕ) (texts : BesideData) (writer : DeviceUse)
+    : Type 0 where
   pub lines : List (List ℕ)
-  pub answer : List ℕ
-  pub cut : IsCutAt series instance answers lines answer
+  pub beside : BesideData
+  pub cut : IsCutAt series instance texts lines beside
   pub line : List ℕ
-  pub is : IsEntry series instance answer (series.span.first + length lines) line
+  pub is : IsEntry series instance beside (series.span.first + length lines) line
   pub failed : writer.failed ≡ true
   pub taken : ℕ
   pub within : taken ≤ length line
   pub written : Appends writer.before writer.after (joined lines ++ take taken line)
 
 -- what was written before this stop
-abbrev pub WritesUntil : Series → List ℕ → List ℕ → DeviceUse → Stop → Type 0
-WritesUntil series instance answers writer stops.Memory =
-    IsStopped series instance answers writer stops.Memory
-WritesUntil series instance answers writer stops.Unwritten =
-    IsCutOff series instance answers writer
-WritesUntil series instance answers writer (stops.Ended status said) =
-    IsStopped series instance answers writer (stops.Ended status said)
+abbrev pub WritesUntil : Series → List ℕ → BesideData → DeviceUse → Stop → Type 0
+WritesUntil series instance texts writer stops.Memory =
+    IsStopped series instance texts writer stops.Memory
+WritesUntil series instance texts writer stops.Unwritten = IsCutOff series instance texts writer
+WritesUntil series instance texts writer (stops.Ended status said) =
+    IsStopped series instance texts writer (stops.Ended status said)
 
 -- what is said where there was no memory
 abbrev pub memory_said : Series → List ℕ
@@ -273,18 +317,27 @@ line_of_stop series (stops.Ended status said) = said.items
 
 -- the text of the answers or orders, and an empty one where none are evaluated
 abbrev pub HasAnswers : Texts → Told → List ℕ → Type 0
-HasAnswers texts (Answers name steps) answers = IsTextOf (texts name.now) answers
-HasAnswers texts (Orders name steps) orders = IsTextOf (texts name.now) orders
+HasAnswers texts (Answers name aids) answers = IsTextOf (texts name.now) answers
+HasAnswers texts (Orders name aids) orders = IsTextOf (texts name.now) orders
 HasAnswers texts _ answers = answers ≡ []
+
+-- the text of bounds, and an empty one where there is none
+abbrev pub HasBounds : Texts → Option (List ℕ) → List ℕ → Type 0
+HasBounds texts None bounds = bounds ≡ []
+HasBounds texts (Some name) bounds = IsTextOf (texts name) bounds
+
+pub record AreBeside (texts : Texts) (told : Told) (beside : BesideData) : Type 0 where
+  pub answers : HasAnswers texts told beside.answers
+  pub bounds : HasBounds texts (bound_of told) beside.bounds
 
 -- all lines were written
 pub record EndsTold (texts : Texts) (series : Series) (writer : DeviceUse) (says : List ℕ → Type 0)
     (status : ℕ) : Type 0 where
   pub instance : List ℕ
   pub is_file : IsTextOf (texts series.input.now) instance
-  pub answers : List ℕ
-  pub are_texts : HasAnswers texts series.told answers
-  pub lines : WritesAll series instance answers writer
+  pub beside : BesideData
+  pub are_beside : AreBeside texts series.told beside
+  pub lines : WritesAll series instance beside writer
   pub ends : status ≡ 0
   pub said : says []
 
@@ -293,14 +346,14 @@ pub record EndsStopped (texts : Texts) (series : Series) (writer : DeviceUse)
     (says : List ℕ → Type 0) (status : ℕ) : Type 0 where
   pub instance : List ℕ
   pub is_file : IsTextOf (texts series.input.now) instance
-  pub answers : List ℕ
-  pub are_texts : HasAnswers texts series.told answers
+  pub beside : BesideData
+  pub are_beside : AreBeside texts series.told beside
   pub stop : Stop
-  pub is : WritesUntil series instance answers writer stop
+  pub is : WritesUntil series instance beside writer stop
   pub ends : status ≡ status_of_stop stop
   pub said : says (line_of_stop series stop)
 
--- the file, or the text of the answers, was not read, which is said as text or as JSON; or there was
+-- the file, or a text beside it, was not read, which is said as text or as JSON; or there was
 -- no memory to say so
 abbrev pub says_as : Series → (List ℕ → Type 0) → List ℕ → Type 0
 says_as series says line = says (if series.json then fault_json None line else line)

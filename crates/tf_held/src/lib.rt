@@ -4,6 +4,7 @@
 #![tactic(auto)]
 
 mod answers;
+mod headings;
 mod held;
 pub mod measured;
 mod misuse;

@@ -1,41 +1,42 @@
-//! A line for each of several instances of a weighted tardiness file.
+//! A line for each of several instances of a file.
 ghost use Rattle.std.specs.Str.{bytes_eq};
 ghost use Rattle.std.specs.Prelude.{◌≡◌, ◌++◌, ◌-◌, ℕ, List, true, false, IfOk, IfErr, IfSome, OnOk};
-ghost use Rattle.std.specs.Prelude.{MatchResult, None, if◌then◌else◌};
+ghost use Rattle.std.specs.Prelude.{MatchResult, None, if◌then◌else◌, option_map};
 ghost use Rattle.std.specs.Io.KnownBytes.{Appends};
 ghost use Rattle.tf_export.specs.Faults.{fault_json};
 ghost use Rattle.tf_asked.specs.Columns.{IsSized};
 ghost use Rattle.tf_asked.specs.declared.options.Work.{Work as Asking};
 ghost use Rattle.tf_command.specs.Ending.{SaysLine};
 ghost use Rattle.tf_command.specs.Formatted.{held};
-ghost use Rattle.tf_command.specs.Performing.{Performs};
 ghost use Rattle.tf_command.specs.Wrote.{Wrote};
 ghost use Rattle.tf_text.specs.Counted.{has_failed, inner_of, use_of};
 ghost use Rattle.tf_text.specs.Input.{IsTextOf};
 ghost use Rattle.tf_text.specs.declared.answer.layout.Layout.TheVariants.{One, Two};
 ghost use Rattle.tf_held.specs.declared.series.Stop.TheVariants.{Memory, Unwritten};
-ghost use Rattle.tf_held.specs.Texts.{held_texts};
-ghost use Rattle.tf_held.specs.Series.{EndsSeries, HasAnswers, IsStopAt, IsUnwritten};
-ghost use Rattle.tf_held.specs.Series.{WritesAll, WritesUntil};
-ghost use Rattle.tf_held.specs.Series.{IsOrderIn, IsWorkFor, AreOptionsFor};
-ghost use Rattle.tf_held.specs.AnswerTexts.{IsNextFor};
+ghost use Rattle.tf_held.specs.Texts.{beside_of, held_texts};
+ghost use Rattle.tf_held.specs.Series.{EndsSeries, HasAnswers, HasBounds, IsStopAt, IsUnwritten};
+ghost use Rattle.tf_held.specs.Series.{WritesAll, WritesUntil, bound_of, plain, without_bound};
+ghost use Rattle.tf_held.specs.Series.{EndsUntold, IsPast};
+ghost use Rattle.tf_held.specs.Series.{IsTextIn, IsWorkFor, AreOptionsFor, IsFormFor};
+ghost use Rattle.tf_held.specs.AnswerTexts.{AreNext, IsNextFor};
 ghost use Rattle.tf_held.specs.Series.{IsUnreadFor, SaidKept, Tells, document_of, has_told};
 ghost use Rattle.tf_held.specs.Series.{line_for, line_of_stop, no_instance, said_for};
 ghost use Rattle.tf_held.specs.Series.{status_of_stop, RunsFor};
+ghost use Rattle.tf_held.specs.Shops.{EndsCounted};
 ghost use Rattle.tf_held.specs.Instances.{AreParts, HasInstance, IsBehind, IsNamedApart};
-ghost use Rattle.tf_held.specs.Instances.{words_behind};
-ghost use Rattle.tf_words.specs.Words.{words};
+ghost use Rattle.tf_asked.specs.Asking.{form_asked};
 
 use crate::answers::{next_answer, next_order};
-use crate::held::Held;
+use crate::headings::name_at;
+use crate::held::{Beside, Held};
+use crate::shops::perform_counted;
 use crate::words_split::split_words;
 use itoa::Buffer;
 use std::alloc::Global;
 use std::io::Write;
 use tf_asked::aids::Aids;
-use tf_asked::options::{Evaluating, FormOption, Options, OrderSource, Telling, Work};
-use tf_asked::series::{Series, Told};
-use tf_command::commands::perform;
+use tf_asked::options::{Assessing, Evaluating, FormOption, Options, OrderSource, Telling, Work};
+use tf_asked::series::{FileForm, Series, Told};
 use tf_command::console::Console;
 use tf_command::formatted::{JSON_DEVICE, JSON_MEMORY, memory};
 use tf_command::gathered::send;
@@ -102,11 +103,19 @@ pub fn perform_series<S: Sources, W: Write, E: Write>(
         Ok(text) => text,
         Err(status) => return status,
     };
+    let bounds = match bounds_named(console, sources, series) {
+        Ok(text) => text,
+        Err(status) => return status,
+    };
+    let texts = Beside {
+        answers: answers.as_slice(),
+        bounds: bounds.as_slice(),
+    };
     match write_lines(
         console.alloc,
         series,
         instance.as_slice(),
-        answers.as_slice(),
+        texts,
         &mut console.writer,
         &mut console.terminal,
     ) {
@@ -136,6 +145,35 @@ fn answers_named<S: Sources, W: Write, E: Write>(
             text_for(console, sources, series, name)
         }
         _ => Ok(Vec::new(console.alloc)),
+    }
+}
+
+/// The text of bounds, and an empty one where there is none.
+fn bounds_named<S: Sources, W: Write, E: Write>(
+    console: &mut Console<W, E>,
+    sources: &S,
+    series: &Series<'_>,
+) -> Result<Vec<u8>, u8>
+    ensures text { IfOk result (λ text.
+        HasBounds (S.text_of sources.now) (bound_of series.now.told) text.items) }
+    ensures kept { IfOk result (λ _. console.new ≡ console.old) }
+    ensures unread { IfErr result (IsUnreadFor (S.text_of sources.now) series.now
+        (use_of W.contents console.old.writer console.new.writer)
+        (SaysLine E.contents false console.old.errors console.new.errors)) }
+{
+    match bound_of(&series.told) {
+        Some(name) => text_for(console, sources, series, name),
+        None => Ok(Vec::new(console.alloc)),
+    }
+}
+
+/// The name of the text of bounds, if there is one.
+fn bound_of<'a>(told: &Told<'a>) -> Option<&'a str>
+    ensures { option_map (λ name. name.now) result ≡ bound_of told.now }
+{
+    match told {
+        Told::Answers(_, aids) | Told::Orders(_, aids) | Told::Ruled(_, aids) => aids.bound,
+        Told::Values | Told::Bounds(_) => None,
     }
 }
 
@@ -197,27 +235,28 @@ fn write_lines<W: Write, E: Write>(
     alloc: Global,
     series: &Series<'_>,
     instance: &[u8],
-    answers: &[u8],
+    texts: Beside<'_>,
     writer: &mut Counted<W>,
     terminal: &mut Option<Counted<E>>,
 ) -> Result<(), Stop>
     ensures { MatchResult result
-        (λ _. WritesAll series.now instance.now answers.now
+        (λ _. WritesAll series.now instance.now (beside_of texts.entry)
         (use_of W.contents writer.old writer.new))
-        (WritesUntil series.now instance.now answers.now
+        (WritesUntil series.now instance.now (beside_of texts.entry)
         (use_of W.contents writer.old writer.new)) }
 {
-    let mut rest = answers;
+    let mut rest = texts;
     let mut ahead = None;
     let first = u64::from(series.span.first);
     let last = u64::from(series.span.last.unwrap_or(u32::MAX));
     for step in 0..(last + 1).saturating_sub(first) {
         let number = (first + step) as u32;
-        let (answer, more) = next_for(&series.told, rest);
+        let (beside, more) = next_for(&series.told, rest);
         let held = Held {
             name: series.input,
             instance,
-            other: answer,
+            bound: bound_of(&series.told),
+            beside,
         };
         let parts = parts_of(series, ahead);
         show_turn(terminal, number, series.span.last);
@@ -233,7 +272,7 @@ fn write_lines<W: Write, E: Write>(
             }
         }
         rest = more;
-        ahead = Some(behind(series, instance, parts, number));
+        ahead = behind(series, instance, parts, number);
     }
     Ok(())
 }
@@ -259,8 +298,22 @@ fn clear<E: Write>(terminal: &mut Option<Counted<E>>) {
     }
 }
 
+/// What the texts have for the next instance, and what is left of them.
+fn next_for<'a>(told: &Told<'_>, texts: Beside<'a>) -> (Beside<'a>, Beside<'a>)
+    ensures { AreNext told.now (beside_of texts.entry) (beside_of result.0) (beside_of result.1) }
+{
+    let (answers, more) = next_told(told, texts.answers);
+    let (bounds, later) = next_answer(texts.bounds);
+    let here = Beside { answers, bounds };
+    let rest = Beside {
+        answers: more,
+        bounds: later,
+    };
+    (here, rest)
+}
+
 /// What a text of answers or orders has for the next instance, and what is left of it.
-fn next_for<'a>(told: &Told<'_>, text: &'a [u8]) -> (&'a [u8], &'a [u8])
+fn next_told<'a>(told: &Told<'_>, text: &'a [u8]) -> (&'a [u8], &'a [u8])
     ensures { IsNextFor told.now text.now result.0.now result.1.now }
 {
     match told {
@@ -318,36 +371,42 @@ fn document_of(told: &Told<'_>) -> Document
 /// The words of the next instance, and the text behind them, where it is known which text is ahead.
 fn parts_of<'a>(series: &Series<'_>, ahead: Option<&'a [u8]>) -> Option<(&'a [u8], &'a [u8])>
     ensures { (text : List ℕ) (number : ℕ) → IfSome ahead.entry
-        (λ ahead. IsBehind series.now text (number - 1) ahead.now) →
+        (λ ahead. IsBehind series.now.form text (number - 1) ahead.now) →
         IfSome result
-        (λ parts. AreParts series.now text number parts.0.now parts.1.now) }
+        (λ parts. AreParts series.now.form text number parts.0.now parts.1.now) }
 {
-    match ahead {
-        Some(text) => Some(split_words(text, 3 * u64::from(series.jobs))),
-        None => None,
+    match (ahead, series.form) {
+        (Some(text), FileForm::Wt { jobs }) => Some(split_words(text, 3 * u64::from(jobs))),
+        _ => None,
     }
 }
 
-/// The text behind the instance of this number, which the file has.
+/// The text behind the instance of this number, which the file has, where it is one of a weighted
+/// tardiness file and the next one may be read from its own words.
 fn behind<'a>(
     series: &Series<'_>,
     instance: &'a [u8],
     parts: Option<(&'a [u8], &'a [u8])>,
     number: u32,
-) -> &'a [u8]
-    requires there { HasInstance series.now instance.now number }
+) -> Option<&'a [u8]>
+    requires there { IsNamedApart series.now.input.now series.now.told →
+        HasInstance series.now.form instance.now number }
     requires parts { IfSome parts
-        (λ parts. AreParts series.now instance.now number parts.0.now parts.1.now) }
-    ensures { IsBehind series.now instance.now number result.now }
+        (λ parts. AreParts series.now.form instance.now number parts.0.now parts.1.now) }
+    ensures { IfSome result (λ ahead. IsBehind series.now.form instance.now number ahead.now) }
 {
-    match parts {
-        Some((_, ahead)) => ahead,
-        None => {
-            let count = 3 * u64::from(series.jobs) * u64::from(number);
-            let (_, ahead) = split_words(instance, count);
-            ahead
-        }
+    let FileForm::Wt { jobs } = series.form else {
+        return None;
+    };
+    if !is_named_apart(series) {
+        return None;
     }
+    if let Some((_, ahead)) = parts {
+        return Some(ahead);
+    }
+    let count = 3 * u64::from(jobs) * u64::from(number);
+    let (_, ahead) = split_words(instance, count);
+    Some(ahead)
 }
 
 /// What the command writes that is about the instance of this number, as [`told_of`] says it. Where
@@ -361,10 +420,12 @@ fn told_next(
     number: u32,
 ) -> Result<Option<Kept>, Stop>
     requires name { held.name.now ≡ series.now.input.now }
+    requires bound { option_map (λ name. name.now) held.bound ≡ bound_of series.now.told }
     requires parts { IfSome parts
-        (λ parts. AreParts series.now held.instance.now number parts.0.now parts.1.now) }
-    ensures { MatchResult result (Tells series.now held.entry.instance.now held.entry.other.now number)
-        (IsStopAt series.now held.entry.instance.now held.entry.other.now number) }
+        (λ parts. AreParts series.now.form held.instance.now number parts.0.now parts.1.now) }
+    ensures { MatchResult result
+        (Tells series.now held.entry.instance.now (beside_of held.entry.beside) number)
+        (IsStopAt series.now held.entry.instance.now (beside_of held.entry.beside) number) }
 {
     if let Some((own, _)) = parts
         && is_named_apart(series)
@@ -381,10 +442,13 @@ fn told_next(
     told_of(alloc, series, held, number)
 }
 
-/// Whether the text of the answers has another name than the file.
+/// Whether there is no text of bounds, and that of the answers has another name than the file.
 fn is_named_apart(series: &Series<'_>) -> bool
     ensures { result ≡ true → IsNamedApart series.now.input.now series.now.told }
 {
+    if bound_of(&series.told).is_some() {
+        return false;
+    }
     match series.told {
         Told::Answers(answer, _) => answer != series.input,
         _ => true,
@@ -399,9 +463,10 @@ fn run_over(
     held: Held<'_>,
     number: u32,
 ) -> Result<(u8, Kept), OutOfMemory>
-    requires { held.name.now ≡ series.now.input.now }
-    ensures { IfOk result (λ run. RunsFor series.now held.entry.instance.now held.entry.other.now
-        number run.0 (inner_of run.1.writer).items (inner_of run.1.errors).items) }
+    requires name { held.name.now ≡ series.now.input.now }
+    requires bound { option_map (λ name. name.now) held.bound ≡ bound_of series.now.told }
+    ensures { IfOk result (λ run. RunsFor series.now held.entry.instance.now
+        (beside_of held.entry.beside) number run.0 (inner_of run.1.writer).items (inner_of run.1.errors).items) }
 {
     let mut kept = memory(alloc);
     let status = work_over(&mut kept, series, &held, number);
@@ -419,9 +484,11 @@ fn told_of(
     held: Held<'_>,
     number: u32,
 ) -> Result<Option<Kept>, Stop>
-    requires { held.name.now ≡ series.now.input.now }
-    ensures { MatchResult result (Tells series.now held.entry.instance.now held.entry.other.now number)
-        (IsStopAt series.now held.entry.instance.now held.entry.other.now number) }
+    requires name { held.name.now ≡ series.now.input.now }
+    requires bound { option_map (λ name. name.now) held.bound ≡ bound_of series.now.told }
+    ensures { MatchResult result
+        (Tells series.now held.entry.instance.now (beside_of held.entry.beside) number)
+        (IsStopAt series.now held.entry.instance.now (beside_of held.entry.beside) number) }
 {
     let (status, kept) = run_over(alloc, series, held, number)?;
     if has_told(status) {
@@ -429,10 +496,73 @@ fn told_of(
     }
     let errors = kept.errors.inner().as_slice();
     let is_later = series.span.last.is_none() && number > series.span.first;
-    if is_later && has_no_instance(errors) {
+    if is_later && is_past(alloc, series, held, number, errors)? {
         return Ok(None);
     }
     Err(Stop::Ended(status, said_for(alloc, series, number, errors)?))
+}
+
+/// Whether the file has no instance of this number, of which the command said this. Beside a bound,
+/// which may be refused before the instance is looked for, it is asked for again without it.
+fn is_past(
+    alloc: Global,
+    series: &Series<'_>,
+    held: Held<'_>,
+    number: u32,
+    errors: &[u8],
+) -> Result<bool, OutOfMemory>
+    requires name { held.name.now ≡ series.now.input.now }
+    requires bound { option_map (λ name. name.now) held.bound ≡ bound_of series.now.told }
+    requires said { (status : ℕ) × EndsUntold series.now held.instance.now (beside_of held.beside)
+        number status errors.now }
+    ensures { IfOk result (λ past. past ≡ true →
+        IsPast series.now held.entry.instance.now (beside_of held.entry.beside) number) }
+{
+    if bound_of(&series.told).is_none() {
+        return Ok(has_no_instance(errors));
+    }
+    let plain = Held {
+        bound: None,
+        ..held
+    };
+    let (status, kept) = run_over(alloc, &without_bound(series), plain, number)?;
+    Ok(!has_told(status) && has_no_instance(kept.errors.inner().as_slice()))
+}
+
+/// The same series, without its text of bounds.
+fn without_bound<'a>(series: &Series<'a>) -> Series<'a>
+    ensures { result ≡ without_bound series.now }
+{
+    Series {
+        problem: series.problem,
+        input: series.input,
+        machines: series.machines,
+        form: series.form,
+        span: series.span,
+        told: plain(series.told),
+        json: series.json,
+    }
+}
+
+/// The same without the text of bounds.
+fn plain(told: Told<'_>) -> Told<'_>
+    ensures { result ≡ plain told.entry }
+{
+    match told {
+        Told::Answers(name, aids) => Told::Answers(name, unaided(aids)),
+        Told::Orders(name, aids) => Told::Orders(name, unaided(aids)),
+        Told::Ruled(rule, aids) => Told::Ruled(rule, unaided(aids)),
+        other => other,
+    }
+}
+
+fn unaided(aids: Aids<'_>) -> Aids<'_>
+    ensures { result ≡ record aids.entry { bound = None } }
+{
+    Aids {
+        bound: None,
+        ..aids
+    }
 }
 
 /// What was said of the instance of this number, and a line that names it, or that as JSON.
@@ -467,56 +597,83 @@ fn has_no_instance(errors: &[u8]) -> bool
 }
 
 /// The options that name the instance of this number alone. Faults are not explained.
-fn options_for<'a>(series: &Series<'a>, number: u32) -> Options<'a>
-    ensures { AreOptionsFor series.now number result }
+fn options_for<'a>(series: &Series<'a>, instance: &'a [u8], number: u32) -> Options<'a>
+    ensures { AreOptionsFor series.now instance.now number result }
 {
     Options {
         problem: series.problem,
-        form: FormOption::Wt {
-            jobs: series.jobs,
-            index: number,
-        },
+        form: form_for(series.form, instance, number),
         machines: series.machines,
         input: series.input,
         telling: Telling::nothing(),
     }
 }
 
+/// The form that names the instance of this number alone.
+fn form_for(form: FileForm, instance: &[u8], number: u32) -> FormOption<'_>
+    ensures { IsFormFor form instance.now number (form_asked result) }
+{
+    match form {
+        FileForm::Wt { jobs } => FormOption::Wt {
+            jobs,
+            index: number,
+        },
+        FileForm::Flow { pair } => FormOption::Flow {
+            name: text_in(name_at(instance, number)),
+            pair,
+        },
+    }
+}
+
 /// Does the work of the command that is about the instance of this number alone, and gives the
 /// status.
 fn work_over(kept: &mut Kept, series: &Series<'_>, texts: &Held<'_>, number: u32) -> u8
-    ensures { (work : Asking) × IsWorkFor series.now number texts.now.other.now work
-        × Performs (held_texts texts.now.name.now texts.now.instance.now texts.now.other.now) work
+    ensures { (work : Asking)
+        × IsWorkFor series.now texts.now.instance.now number texts.now.beside.answers.now work
+        × EndsCounted (held_texts texts.now.name.now texts.now.instance.now
+        (option_map (λ name. name.now) texts.now.bound) (beside_of texts.now.beside)) work
         (use_of held kept.old.writer kept.new.writer)
         (λ explain. SaysLine held explain kept.old.errors kept.new.errors) result }
 {
-    let work = work_for(series, texts.other, number);
-    perform(kept, texts, &work)
+    let options = options_for(series, texts.instance, number);
+    let work = work_for(series, options, texts.beside.answers);
+    perform_counted(kept, texts, work)
 }
 
-/// The work of the command that is about the instance of this number alone, beside an answer or the
-/// line of an order.
-fn work_for<'a>(series: &Series<'a>, answer: &'a [u8], number: u32) -> Work<'a>
+/// The work of the command by options that name an instance alone, beside an answer or the line of
+/// an order.
+fn work_for<'a>(series: &Series<'a>, options: Options<'a>, answer: &'a [u8]) -> Work<'a>
     ensures sized { IsSized result }
-    ensures work { IsWorkFor series.now number answer.now result }
+    ensures work { (instance : List ℕ) (number : ℕ) →
+        AreOptionsFor series.now instance number options.entry →
+        IsWorkFor series.now instance number answer.now result }
 {
-    let options = options_for(series, number);
     match series.told {
         Told::Values => Work::Solve(options, layout_for(series)),
         Told::Bounds(steps) => Work::Bound(options, steps),
-        Told::Answers(answer, steps) => Work::Evaluate(Evaluating {
-            options,
-            answer,
-            detail: Detail::Summary,
-            steps,
-        }),
-        Told::Orders(_, steps) => {
-            let source = OrderSource::Given(order_in(answer), Detail::Summary);
-            Work::Rate(options, source, aids_of(steps))
+        Told::Answers(answer, aids) => match aids.bound {
+            None => Work::Evaluate(Evaluating {
+                options,
+                answer,
+                detail: Detail::Summary,
+                steps: aids.steps,
+            }),
+            Some(bound) => Work::Assess(Assessing {
+                options,
+                answer,
+                bound,
+                steps: aids.steps,
+            }),
+        },
+        Told::Orders(_, aids) => {
+            Work::Rate(
+                options,
+                OrderSource::Given(text_in(answer), Detail::Summary),
+                aids,
+            )
         }
-        Told::Ruled(rule, steps) => {
-            let source = OrderSource::Ruled(rule, Detail::Summary);
-            Work::Rate(options, source, aids_of(steps))
+        Told::Ruled(rule, aids) => {
+            Work::Rate(options, OrderSource::Ruled(rule, Detail::Summary), aids)
         }
     }
 }
@@ -532,22 +689,14 @@ fn layout_for(series: &Series<'_>) -> Layout
     }
 }
 
-/// The order that a line says: all of it, and nothing where it is no text in UTF-8.
-fn order_in(line: &[u8]) -> &str
-    ensures { IsOrderIn line.now result.now }
+/// The text that bytes are, and nothing where they are no text in UTF-8.
+fn text_in(bytes: &[u8]) -> &str
+    ensures { IsTextIn bytes.now result.now }
 {
-    match std::str::from_utf8(line) {
-        Ok(order) => order,
+    match std::str::from_utf8(bytes) {
+        Ok(text) => text,
         Err(_) => "",
     }
-}
-
-/// So many steps of the search for prices, where they are given, and no bound of a text.
-fn aids_of<'a>(steps: Option<u32>) -> Aids<'a>
-    ensures bound { result.bound ≡ None }
-    ensures steps { result.steps ≡ steps }
-{
-    Aids { bound: None, steps }
 }
 
 /// Says why there are no more lines, and gives the status.

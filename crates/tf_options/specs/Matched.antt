@@ -170,13 +170,17 @@ wt_fault given = first_fault
     (unless_some (codes "--index takes a number from 1 to 4294967295")
     (number_by given (codes "index") 1 4294967295))
 
+abbrev pub pair_fault : Given → Option (List ℕ)
+pair_fault given =
+    option_and_then
+    (λ word. unless_some
+    (codes "--pair takes two numbers up to 1000 with a comma between them") (pair_in word))
+    (given.value (codes "pair"))
+
 abbrev pub flow_fault : Given → Option (List ℕ)
 flow_fault given = first_fault
     (unless_some (codes "--format flow needs --name") (given.value (codes "name")))
-    (option_and_then
-    (λ word. unless_some
-    (codes "--pair takes two numbers up to 1000 with a comma between them") (pair_in word))
-    (given.value (codes "pair")))
+    (pair_fault given)
 
 abbrev pub job_shop_fault : Given → Option (List ℕ)
 job_shop_fault given =

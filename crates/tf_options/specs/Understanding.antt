@@ -15,7 +15,7 @@ use Rattle.tf_options.specs.declared.options.Asked.TheVariants as asking
 -- several instances are named, and more of them than a line each is asked for
 abbrev pub one_instance : List ℕ
 one_instance =
-    codes "--csv, --summary, --measures, --certificate, --bound, --order, --schedule and --grade "
+    codes "--csv, --summary, --measures, --certificate, --order, --schedule and --grade "
     ++ codes "take one instance, and --index names several"
 
 abbrev pub IsOneInstance : Asked → Type 0

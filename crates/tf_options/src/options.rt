@@ -7,12 +7,12 @@ ghost use Rattle.tf_options.specs.Columns.{HasColumns};
 ghost use Rattle.tf_options.specs.FormatAsked.{IsFormatBy, IsSolvedLayoutBy, asked_in_format};
 ghost use Rattle.tf_options.specs.FormatAsked.{csv_format, json_format};
 ghost use Rattle.tf_options.specs.Matched.{AreIdleBy, AreOptionsBy, IsFlagBy};
-ghost use Rattle.tf_options.specs.Matched.{IsFormBy, IsNumberBy, IsToldInstead};
+ghost use Rattle.tf_options.specs.Matched.{IsFormBy, IsNumberBy, IsPairBy, IsToldInstead};
 ghost use Rattle.tf_options.specs.Matched.{explains_by, flow_fault, form_fault, given_of, job_shop_fault};
 ghost use Rattle.tf_options.specs.Matched.{has_arithmetic, is_latex, lacks, layout_by};
 ghost use Rattle.tf_options.specs.Matched.{lists_bounded};
 ghost use Rattle.tf_options.specs.Matched.{machines_fault, most_steps, options_fault, pair_in};
-ghost use Rattle.tf_options.specs.Matched.{steps_fault, wt_fault};
+ghost use Rattle.tf_options.specs.Matched.{pair_fault, steps_fault, wt_fault};
 ghost use Rattle.tf_options.specs.OptionNumber.{numeral_in};
 ghost use Rattle.tf_options.specs.Understanding.{IsFormattedBy, IsMeasuredList, IsUnderstoodBy};
 ghost use Rattle.tf_options.specs.Understood.{HasNoOrder, IsAskedBy, IsOrderBy, IsWorkBy};
@@ -61,7 +61,7 @@ pub enum Asked<'a> {
 }
 
 const ONE_INSTANCE: &str = "\
---csv, --summary, --measures, --certificate, --bound, --order, --schedule and --grade \
+--csv, --summary, --measures, --certificate, --order, --schedule and --grade \
 take one instance, and --index names several";
 
 const ORDERS_ALONE: &str = "--csv goes with --measures for --orders alone";
@@ -323,7 +323,7 @@ pub(crate) fn steps_in(given: &ArgMatches<'_>) -> Result<Option<u32>, Wrong>
 }
 
 // The orders that are to be evaluated, if any are.
-fn orders_in<'a>(given: &ArgMatches<'a>) -> Option<OrderSource<'a>>
+pub(crate) fn orders_in<'a>(given: &ArgMatches<'a>) -> Option<OrderSource<'a>>
     ensures { MatchOption result (HasNoOrder (given_of given.now)) (IsOrderBy (given_of given.now)) }
 {
     if let Some(order) = given.get_str("order") {
@@ -346,7 +346,7 @@ fn orders_in<'a>(given: &ArgMatches<'a>) -> Option<OrderSource<'a>>
 }
 
 // The rule of this name, of the five that clap lets through.
-pub(crate) fn rule_by(name: &str) -> Rule
+fn rule_by(name: &str) -> Rule
     ensures { result ≡ rule_by name.now }
 {
     if name == "EDD" {
@@ -501,14 +501,23 @@ fn flow_in<'a>(given: &ArgMatches<'a>) -> Result<FormOption<'a>, Wrong>
     let Some(name) = given.get_str("name") else {
         return Err(Wrong::Unfit("--format flow needs --name"));
     };
+    Ok(FormOption::Flow {
+        name,
+        pair: pair_given(given)?,
+    })
+}
+
+// The numbers of two machines, where they are given.
+pub(crate) fn pair_given(given: &ArgMatches<'_>) -> Result<Option<(u32, u32)>, Wrong>
+    ensures given { IfOk result (IsPairBy ((given_of given.now).value (codes "pair"))) }
+    ensures unhurt { IfOk result (λ _. pair_fault (given_of given.now) ≡ None) }
+    ensures fault { IfErr result (IsToldInstead false (pair_fault (given_of given.now))) }
+{
     let Some(word) = given.get_str("pair") else {
-        return Ok(FormOption::Flow { name, pair: None });
+        return Ok(None);
     };
     match pair_in(word) {
-        Some(pair) => Ok(FormOption::Flow {
-            name,
-            pair: Some(pair),
-        }),
+        Some(pair) => Ok(Some(pair)),
         None => Err(Wrong::Unfit("--pair takes two numbers up to 1000 with a comma between them")),
     }
 }

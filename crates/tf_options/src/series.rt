@@ -1,21 +1,20 @@
-//! What is asked for of several instances of a weighted tardiness file.
+//! What is asked for of several instances of a file.
 ghost use Rattle.std.specs.Prelude.{◌≡◌, ◌||◌, None, Some, false, true, codes, IfErr, IfOk};
-ghost use Rattle.std.specs.Prelude.{option_map};
 ghost use Rattle.tf_model.specs.Limit.{most_jobs};
 ghost use Rattle.tf_options.specs.Columns.{HasColumns};
 ghost use Rattle.tf_options.specs.Matched.{IsToldInstead, given_of, lacks, number_by};
-ghost use Rattle.tf_options.specs.SeriesAsked.{AsksMore, IsLineEach, IsSeriesAsked, IsSeriesBy, IsToldBy};
-ghost use Rattle.tf_options.specs.SeriesAsked.{jobs_fault, lacks_answers};
-ghost use Rattle.tf_options.specs.SeriesAsked.{lacks_names, lines_fault, series_fault};
-ghost use Rattle.tf_options.specs.SeriesAsked.{span_between, span_for, span_in, span_of};
-ghost use Rattle.tf_options.specs.SeriesAsked.{takes_span, told_fault};
-ghost use Rattle.tf_options.specs.Understood.{answer_fault};
+ghost use Rattle.tf_options.specs.SeriesAsked.{AsksMore, IsFileFormBy, IsLineEach, IsSeriesAsked};
+ghost use Rattle.tf_options.specs.SeriesAsked.{IsSeriesBy, IsToldBy, file_fault, is_of_several};
+ghost use Rattle.tf_options.specs.SeriesAsked.{jobs_fault, lacks_answers, lacks_names, series_fault};
+ghost use Rattle.tf_options.specs.SeriesAsked.{span_between, span_for, span_in, span_of, takes_span};
+ghost use Rattle.tf_options.specs.Understood.{IsOrderBy, answer_fault, own_fault, rating_fault};
 
-use crate::aids::is_standard_input;
-use crate::options::{Asked, machines_in, number_within, rule_by, steps_in};
+use crate::aids::{aids_in, is_standard_input, rating_aids_in};
+use crate::options::{Asked, machines_in, number_within, orders_in, pair_given, steps_in};
 use crate::wrong::Wrong;
 use clap::ArgMatches;
-use tf_asked::series::{Series, Span, Told};
+use tf_asked::options::OrderSource;
+use tf_asked::series::{FileForm, Series, Span, Told};
 use tf_model::limit::MOST_JOBS;
 
 // The instances from the first to the last, if that does not come before it.
@@ -47,13 +46,25 @@ fn span_in(word: &str) -> Option<Span>
     span_between(first, last)
 }
 
-// The instances that are named of a weighted tardiness file, if they are several.
+// Whether the file is one of several instances, of which none is named.
+fn is_of_several(given: &ArgMatches<'_>) -> bool
+    ensures { result ≡ is_of_several (given_of given.now) }
+{
+    match given.get_str("format") {
+        Some("wt") => true,
+        Some("flow" | "jobshop") => given.get_str("name").is_none(),
+        _ => false,
+    }
+}
+
+// The instances that are named of such a file, if they are several.
 fn span_of(given: &ArgMatches<'_>) -> Option<Span>
     ensures { result ≡ span_of (given_of given.now) }
 {
-    match given.get_str("format") {
-        Some("wt") => span_in(given.get_str("index")?),
-        _ => None,
+    if is_of_several(given) {
+        span_in(given.get_str("index")?)
+    } else {
+        None
     }
 }
 
@@ -91,6 +102,23 @@ fn jobs_in(given: &ArgMatches<'_>) -> Result<u32, Wrong>
     }
 }
 
+// How the instances of the file are written.
+fn file_form_in(given: &ArgMatches<'_>) -> Result<FileForm, Wrong>
+    ensures given { IfOk result (IsFileFormBy (given_of given.now)) }
+    ensures unhurt { IfOk result (λ _. file_fault (given_of given.now) ≡ None) }
+    ensures fault { IfErr result (IsToldInstead false (file_fault (given_of given.now))) }
+{
+    match given.get_str("format") {
+        Some("wt") => Ok(FileForm::Wt {
+            jobs: jobs_in(given)?,
+        }),
+        Some("flow") => Ok(FileForm::Flow {
+            pair: pair_given(given)?,
+        }),
+        _ => Ok(FileForm::Flow { pair: None }),
+    }
+}
+
 // The name of the answers, which cannot be standard input beside the instances.
 fn answers_in<'a>(given: &ArgMatches<'a>) -> Result<&'a str, Wrong>
     ensures given { IfOk result (λ name. (given_of given.now).value (codes "ANSWER") ≡ Some name.now) }
@@ -107,25 +135,13 @@ fn answers_in<'a>(given: &ArgMatches<'a>) -> Result<&'a str, Wrong>
     Ok(answer)
 }
 
-// The name of the orders, if it is given, which cannot be standard input beside the instances.
-fn lines_in<'a>(given: &ArgMatches<'a>) -> Result<Option<&'a str>, Wrong>
-    ensures given { IfOk result
-        (λ name. option_map (λ word. word.now) name ≡ (given_of given.now).value (codes "orders")) }
-    ensures unhurt { IfOk result (λ _. lines_fault (given_of given.now) ≡ None) }
-    ensures fault { IfErr result (IsToldInstead false (lines_fault (given_of given.now))) }
-{
-    if is_standard_input(given, "orders") && is_standard_input(given, "INPUT") {
-        return Err(Wrong::Unfit("INPUT and --orders cannot both be standard input"));
-    }
-    Ok(given.get_str("orders"))
-}
-
 // What the command of this name tells of each instance.
 fn told_in<'a>(name: &str, given: &ArgMatches<'a>) -> Result<Told<'a>, Wrong>
-    requires { takes_span name.now ≡ true }
+    requires name { takes_span name.now ≡ true }
+    requires each { IsLineEach (given_of given.now) }
     ensures given { IfOk result (IsToldBy name.now (given_of given.now)) }
     ensures fault { IfErr result (IsToldInstead (lacks_answers name.now (given_of given.now))
-        (told_fault name.now (given_of given.now))) }
+        (own_fault name.now (given_of given.now))) }
 {
     if name == "solve" {
         return Ok(Told::Values);
@@ -133,14 +149,27 @@ fn told_in<'a>(name: &str, given: &ArgMatches<'a>) -> Result<Told<'a>, Wrong>
     if name == "bound" {
         return Ok(Told::Bounds(steps_in(given)?));
     }
-    if let Some(rule) = given.get_str("rule") {
-        return Ok(Told::Ruled(rule_by(rule), steps_in(given)?));
-    }
-    if let Some(orders) = lines_in(given)? {
-        return Ok(Told::Orders(orders, steps_in(given)?));
+    if let Some(orders) = orders_in(given) {
+        return rated_in(given, &orders);
     }
     let answers = answers_in(given)?;
-    Ok(Told::Answers(answers, steps_in(given)?))
+    Ok(Told::Answers(answers, aids_in(given)?))
+}
+
+// What is told of each instance by the orders that are given, which are those of a rule or of a
+// text.
+fn rated_in<'a>(given: &ArgMatches<'a>, orders: &OrderSource<'a>) -> Result<Told<'a>, Wrong>
+    requires each { IsLineEach (given_of given.now) }
+    requires orders { IsOrderBy (given_of given.now) orders.now }
+    ensures given { IfOk result (IsToldBy (codes "evaluate") (given_of given.now)) }
+    ensures fault { IfErr result (IsToldInstead false (rating_fault (given_of given.now))) }
+{
+    let aids = rating_aids_in(given, orders)?;
+    match *orders {
+        OrderSource::Ruled(rule, _) => Ok(Told::Ruled(rule, aids)),
+        OrderSource::Named { name, .. } => Ok(Told::Orders(name, aids)),
+        _ => Err(Wrong::Missing),
+    }
 }
 
 /// Whether no more is evaluated of an instance than its line tells, and nothing that is of one
@@ -150,15 +179,15 @@ pub(crate) fn has_line_each(given: &ArgMatches<'_>) -> bool
     ensures more { result ≡ false → AsksMore (given_of given.now) }
 {
     let has_one = given.get_str("order").is_some() || given.get_str("schedule").is_some();
-    let is_beside = given.get_str("bound").is_some();
     let is_listed = given.get_flag("csv") || given.get_flag("summary") || given.get_flag("grade");
     let tells_more = given.get_flag("measures") || given.get_flag("certificate");
-    !has_one && !is_beside && !is_listed && !tells_more
+    !has_one && !is_listed && !tells_more
 }
 
 /// What the command of this name asks for of several instances.
 pub fn series_asked<'a>(name: &str, given: &ArgMatches<'a>, span: Span) -> Asked<'a>
-    requires { span_for name.now (given_of given.now) ≡ Some span }
+    requires span { span_for name.now (given_of given.now) ≡ Some span }
+    requires each { IsLineEach (given_of given.now) }
     ensures columns { HasColumns result }
     ensures asked { IsSeriesAsked name.now (given_of given.now) result }
 {
@@ -170,7 +199,8 @@ pub fn series_asked<'a>(name: &str, given: &ArgMatches<'a>, span: Span) -> Asked
 }
 
 fn series_in<'a>(name: &str, given: &ArgMatches<'a>, span: Span) -> Result<Series<'a>, Wrong>
-    requires { span_for name.now (given_of given.now) ≡ Some span }
+    requires span { span_for name.now (given_of given.now) ≡ Some span }
+    requires each { IsLineEach (given_of given.now) }
     ensures given { IfOk result (IsSeriesBy name.now (given_of given.now)) }
     ensures fault { IfErr result
         (IsToldInstead (lacks_names (given_of given.now) || lacks_answers name.now (given_of given.now))
@@ -180,13 +210,13 @@ fn series_in<'a>(name: &str, given: &ArgMatches<'a>, span: Span) -> Result<Serie
         return Err(Wrong::Missing);
     };
     let machines = machines_in(given)?;
-    let jobs = jobs_in(given)?;
+    let form = file_form_in(given)?;
     let told = told_in(name, given)?;
     Ok(Series {
         problem,
         input,
         machines,
-        jobs,
+        form,
         span,
         told,
         json: given.get_flag("json"),

@@ -4,13 +4,19 @@ use Rattle.tf_held.proofs.series.perform_series.Goals as goal
 
 pub returns-in-Ok-write_lines : goal.returns-in-Ok-write_lines
 returns-in-Ok-write_lines g c =
-    rw (← (c.in-Ok-answers_named.ensures.kept ∙ c.in-Ok.ensures.kept))
+    rw (← (c.in-Ok-bounds_named.ensures.kept ∙ c.in-Ok-answers_named.ensures.kept ∙ c.in-Ok.ensures.kept))
     (inl (record {
       instance = c.in-Ok.text.items;
       is_file = c.in-Ok.ensures.text;
-      answers = c.in-Ok-answers_named.text.items;
-      are_texts = c.in-Ok-answers_named.ensures.text;
-      lines = rw (← c.as_slice.ensures.value, ← c.as_slice-2.ensures.value)
+      beside = record {
+        answers = c.in-Ok-answers_named.text.items;
+        bounds = c.in-Ok-bounds_named.text.items;
+      };
+      are_beside = record {
+        answers = c.in-Ok-answers_named.ensures.text;
+        bounds = c.in-Ok-bounds_named.ensures.text;
+      };
+      lines = rw (← c.as_slice.ensures.value, ← c.as_slice-2.ensures.value, ← c.as_slice-3.ensures.value)
           c.in-Ok-write_lines.ensures;
       ends = refl;
       said = search rules;
@@ -18,14 +24,20 @@ returns-in-Ok-write_lines g c =
 
 pub returns : goal.returns
 returns g c =
-    rw (← (c.in-Ok-answers_named.ensures.kept ∙ c.in-Ok.ensures.kept))
+    rw (← (c.in-Ok-bounds_named.ensures.kept ∙ c.in-Ok-answers_named.ensures.kept ∙ c.in-Ok.ensures.kept))
     (inr (inl (record {
       instance = c.in-Ok.text.items;
       is_file = c.in-Ok.ensures.text;
-      answers = c.in-Ok-answers_named.text.items;
-      are_texts = c.in-Ok-answers_named.ensures.text;
+      beside = record {
+        answers = c.in-Ok-answers_named.text.items;
+        bounds = c.in-Ok-bounds_named.text.items;
+      };
+      are_beside = record {
+        answers = c.in-Ok-answers_named.ensures.text;
+        bounds = c.in-Ok-bounds_named.ensures.text;
+      };
       stop = c.in-Err-write_lines.stop;
-      is = rw (← c.as_slice.ensures.value, ← c.as_slice-2.ensures.value)
+      is = rw (← c.as_slice.ensures.value, ← c.as_slice-2.ensures.value, ← c.as_slice-3.ensures.value)
           c.in-Err-write_lines.ensures;
       ends = c.tell_stop.ensures.status;
       said = says_alone c.tell_stop.ensures.said;

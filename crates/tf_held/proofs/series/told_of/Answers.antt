@@ -1,6 +1,7 @@
 use Rattle.std.proofs.Common.{sym, ap, ◌∙◌}
 use Rattle.std.proofs.lemmas.Bool.{true≢false}
-use Rattle.tf_held.proofs.Told.{later, none_there, said_none, untold}
+use Rattle.tf_held.specs.Texts.{beside_of}
+use Rattle.tf_held.proofs.Told.{later, none_there, untold}
 use Rattle.tf_held.proofs.series.told_of.Goals as goal
 use Rattle.tf_held.proofs.series.told_of.Goals.{then-is_none, else-is_none}
 
@@ -12,20 +13,12 @@ returns-then-has_told c = (
   sym c.has_told.ensures ∙ c.if-has_told.true,
 )
 
-pub returns-then-has_no_instance : goal.returns-then-has_no_instance
-returns-then-has_no_instance c = elim c.if-is_none.branch [
+pub returns-then-branch : goal.returns-then-branch
+returns-then-branch c = elim c.if-is_none.branch [
   | then-is_none w ↦ (
     none_there _ c.is_none.result c.is_none.ensures w.if-is_none.true,
     later _ _ c.if-is_none.is_later w.is_later-is c.if-is_later.true,
-    (
-      c.in_ok-status.status,
-      untold c.args.series.now c.args.held.instance.now c.args.held.other.now c.args.number
-          c.in_ok-status.status _ _ _ c.in_ok-status.ensures
-          (sym c.has_told.ensures ∙ c.if-has_told.false)
-          (said_none c.as_slice-errors.result.now _
-          (c.as_slice-errors.ensures.value ∙ ap (λ v. v.items) c.inner.ensures)
-          (sym c.has_no_instance.ensures ∙ c.if-has_no_instance.true)),
-    ),
+    c.in_ok-is_past.ensures c.if-branch.true,
   )
   | else-is_none w ↦
       absurd (true≢false (sym c.if-is_later.true ∙ w.is_later-is ∙ w.if-is_none.false))
@@ -34,7 +27,7 @@ returns-then-has_no_instance c = elim c.if-is_none.branch [
 pub returns : goal.returns
 returns c = (
   _,
-  untold c.args.series.now c.args.held.instance.now c.args.held.other.now c.args.number
+  untold c.args.series.now c.args.held.instance.now (beside_of c.args.held.beside) c.args.number
       c.in_ok-status.status _ _ _ c.in_ok-status.ensures
       (sym c.has_told.ensures ∙ c.if-has_told.false)
       (c.as_slice-errors.ensures.value ∙ ap (λ v. v.items) c.inner.ensures),
