@@ -1,5 +1,5 @@
 -- The table by operations, of pieces that name their operations in place of their jobs.
-use Rattle.std.proofs.Common.{◌≡◌, ◌≢◌, ℕ, ◌+◌, ◌-◌, ◌*◌, ◌<◌, ◌≤◌, max, min, Bool, true, false, cond, ◌&&◌, eqb, List, [], ◌∷◌, length, map, refl, sym, ap, ◌∙◌, subst, arith, inl, inr}
+use Rattle.std.proofs.Common.{◌≡◌, ◌≢◌, ℕ, ◌+◌, ◌-◌, ◌*◌, ◌<◌, ◌≤◌, max, min, Bool, true, false, cond, ◌&&◌, eqb, List, [], ◌∷◌, length, get_or, take, map, refl, sym, ap, ◌∙◌, arith, inl, inr}
 use Rattle.std.specs.List.{All}
 use Rattle.std.proofs.Math.Nat.{mul-le-mul_right}
 use Rattle.std.proofs.lemmas.Bool.{cases_lt, cases_eq}
@@ -11,10 +11,10 @@ use Rattle.tf_schedule.specs.declared.piece.Piece.{Piece}
 use Rattle.tf_schedule.specs.Amounts.{work, pieces_on, greatest_by, least_by, start_of}
 use Rattle.tf_schedule.specs.Drawing.{duration, stop_of}
 use Rattle.tf_schedule.specs.Extent.{most_work, extent_of}
-use Rattle.tf_schedule.specs.Lanes.{LanesData, HasLanes}
-use Rattle.tf_schedule.specs.Schedule.{IsPiece}
+use Rattle.tf_schedule.specs.Lanes.{LanesData, HasLanes, added}
 use Rattle.tf_schedule.specs.Operation.{first_operation, operation_piece, extent_behind, IsWithin}
 use Rattle.tf_schedule.specs.Tables.{HasOperations}
+use Rattle.tf_schedule.proofs.OnLanes.{lanes_more}
 
 -- ---- numbers of operations
 
@@ -146,11 +146,15 @@ module _ (n m j i : ℕ) (low : 1 ≤ j) (on : i < m) where
 -- ---- the table
 
 -- the pieces stay sound
-pub named_sound : (m : ℕ) (ps : List Piece) → All IsPiece ps
-    → All IsPiece (map (operation_piece m) ps)
-named_sound m ps sound a d h =
-    let in' : a < length ps = omega (arith, h, length-map ps (operation_piece m)) in
-    subst IsPiece (sym (get_or-map (operation_piece m) ps a d d in')) (sound a d in')
+-- with one more piece
+pub operations_more : (n m : ℕ) (ps : List Piece) (i : ℕ) (p : Piece) → i < length ps
+    → p ≡ get_or ps i p → 1 ≤ (operation_piece m p).job → (l : LanesData)
+    → HasLanes n (take i (named m ps)) l
+    → HasLanes n (take (i + 1) (named m ps)) (added l (operation_piece m p))
+operations_more n m ps i p lt read some l has =
+    let f : Piece → Piece = operation_piece m in
+    lanes_more n (named m ps) i (f p) (omega (arith, lt, length-map ps f))
+    (ap f read ∙ sym (get_or-map f ps i p (f p) lt)) some l has
 
 pub has_operations : (n m : ℕ) (ps : List Piece) (l : LanesData) → All (IsWithin n m) ps
     → HasLanes (n * m) (map (operation_piece m) ps) l → HasOperations n m ps l

@@ -73,8 +73,8 @@ impl<A: Allocator> Lanes<A> {
         range_at(&self.machines, job).is_one()
     }
 
-    // Adds a piece.
-    fn add(&mut self, piece: &Piece)
+    /// Adds a piece.
+    pub(crate) fn add(&mut self, piece: &Piece)
         requires { IsPiece piece.now }
         ensures added { self.new ≡ added self.old piece.now }
         ensures from_one { 0 < piece.now.job }
@@ -94,8 +94,8 @@ impl<A: Allocator> Lanes<A> {
     }
 }
 
-// Of no pieces.
-fn empty_lanes<A: Allocator + Copy>(
+/// The table of no pieces.
+pub(crate) fn empty_lanes<A: Allocator + Copy>(
     alloc: A,
     jobs: usize,
     keeps_machines: bool,

@@ -1,5 +1,5 @@
 //! When the operations of a shop run: what a job does on one machine.
-ghost use Rattle.std.specs.Prelude.{◌≡◌, ◌+◌, ◌≤◌, map, length, IfOk, IsTrue};
+ghost use Rattle.std.specs.Prelude.{◌≡◌, ◌+◌, ◌≤◌, length, IfOk, IsTrue};
 ghost use Rattle.std.specs.List.{All};
 ghost use Rattle.tf_model.specs.Limit.{most_jobs, most_machines};
 ghost use Rattle.tf_schedule.specs.Schedule.{IsPiece, IsSchedule};
@@ -9,7 +9,7 @@ ghost use Rattle.tf_schedule.specs.ProblemMisfit.{IsKnownTo};
 ghost use Rattle.tf_schedule.specs.Tables.{HasOperations};
 
 use crate::asks::Asks;
-use crate::lanes::{Lanes, lanes_of};
+use crate::lanes::{Lanes, empty_lanes};
 use crate::piece::Piece;
 use std::alloc::{AllocError, Allocator};
 use tf_model::ids::JobId;
@@ -39,22 +39,6 @@ fn operation_piece(machines: u32, piece: &Piece) -> Piece
     }
 }
 
-fn operation_pieces<A: Allocator>(
-    alloc: A,
-    machines: u32,
-    pieces: &[Piece],
-) -> Result<Vec<Piece, A>, AllocError>
-    requires within { All (IsWithin most_jobs machines) pieces.now }
-    requires few { machines ≤ most_machines }
-    ensures { IfOk result (λ v. v.items ≡ map (operation_piece machines) pieces.now) }
-{
-    let mut operations = Vec::with_capacity(alloc, pieces.len())?;
-    for piece in pieces {
-        operations.push(operation_piece(machines, piece))?;
-    }
-    Ok(operations)
-}
-
 // The table of the operations of a shop.
 fn shop_operations<A: Allocator + Copy>(
     alloc: A,
@@ -68,8 +52,10 @@ fn shop_operations<A: Allocator + Copy>(
     requires within { All (IsWithin jobs machines) pieces.now }
     ensures { IfOk result (HasOperations jobs machines pieces.now) }
 {
-    let operations = operation_pieces(alloc, machines, pieces)?;
-    let (lanes, _) = lanes_of(alloc, jobs * machines as usize, false, &operations)?;
+    let mut lanes = empty_lanes(alloc, jobs * machines as usize, false)?;
+    for piece in pieces {
+        lanes.add(&operation_piece(machines, piece));
+    }
     Ok(lanes)
 }
 
@@ -87,6 +73,5 @@ pub(crate) fn operations_of<A: Allocator + Copy, T: Asks>(
     if task.problem().env.is_shop() {
         return shop_operations(alloc, task.len(), task.machines(), pieces);
     }
-    let (lanes, _) = lanes_of(alloc, 0, false, &[])?;
-    Ok(lanes)
+    empty_lanes(alloc, 0, false)
 }
