@@ -1,7 +1,6 @@
 -- The order of the jobs of a task, from the answer to a bare task with its arcs, and its cycle.
 use Rattle.std.proofs.Common.{◌≡◌, ℕ, zero, suc, ◌+◌, ◌≤◌, Bool, true, false, not, List, [], ◌∷◌, ◌++◌, length, get_or, map, reverse, refl, sym, ap, subst, ◌∙◌, arith, append_assoc}
 use Rattle.std.specs.List.{All, range_with_len, fold}
-use Rattle.std.proofs.lemmas.Bool.{false≢true}
 use Rattle.std.proofs.lemmas.List.{map-append, append-nil}
 use Rattle.std.proofs.lemmas.List.Elements.{All-head, All-tail}
 use Rattle.std.proofs.lemmas.List.FromFn.{length-range_with_len, get_or-range_with_len}
@@ -14,6 +13,7 @@ use Rattle.tf_posed.specs.ProblemData.{ProblemData, IsProblemJob, problem_jobs}
 use Rattle.tf_schedule.specs.declared.piece.Piece.{Piece}
 use Rattle.tf_schedule.specs.SemiActive.{stretch, start_after, with_operation}
 use Rattle.tf_schedule.specs.Sequence.{operation_of, in_sequence}
+use Rattle.tf_schedule.proofs.Judging.{no_prec}
 use Rattle.tf_check.specs.Claim.{Claim}
 use Rattle.tf_single.specs.FromTheBack.{IsFromTheBack}
 use Rattle.tf_single.specs.NotSolved.{IsNamedCycle}
@@ -39,17 +39,6 @@ numbered_more xs k x before is =
     ap (λ ys. ys ++ x ∷ []) before
     ∙ ap (λ y. range_with_len 1 k ++ y ∷ []) (let e : x ≡ 1 + k = omega (arith, is) in e)
     ∙ sym (range_more 1 k)
-
-no_prec : (p q : Problem) → not p.prec ≡ true → p ≡ q → q.prec ≡ true → ⊥
-no_prec p q none same asked =
-    false≢true (sym (ap (λ (x : Problem). not x.prec) same ∙ ap not asked) ∙ none)
-
-pub is_prec : (p q : Problem) → not p.prec ≡ false → p ≡ q → q.prec ≡ true
-is_prec p q some same = sym (ap (λ (x : Problem). x.prec) same) ∙ not_false p.prec some
-  where
-    not_false : (b : Bool) → not b ≡ false → b ≡ true
-    not_false true e = refl
-    not_false false e = cc
 
 pub plain_order : (k : ProblemData) (p : Problem) (order : List ℕ) → not p.prec ≡ true
     → p ≡ k.problem → order ≡ problem_jobs k → IsSerialOrder k order

@@ -1,7 +1,8 @@
 use Rattle.std.proofs.Common.{List, map, ap, ◌∙◌}
 use Rattle.tf_check.specs.Claim.{AnswerData}
 use Rattle.tf_schedule.specs.declared.piece.Piece.{Piece}
-use Rattle.tf_plan.proofs.Named.{plain_order, bare_order, is_prec}
+use Rattle.tf_plan.proofs.Named.{plain_order, bare_order}
+use Rattle.tf_schedule.proofs.Judging.{is_prec}
 use Rattle.tf_plan.proofs.order.order_of.Goals as goal
 
 pub returns-then-not-problem : goal.returns-then-not-problem
