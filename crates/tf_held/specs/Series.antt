@@ -315,20 +315,20 @@ line_of_stop series (stops.Ended status said) = said.items
 
 -- ---- how it ends
 
--- the text of the answers or orders, and an empty one where none are evaluated
-abbrev pub HasAnswers : Texts → Told → List ℕ → Type 0
-HasAnswers texts (Answers name aids) answers = IsTextOf (texts name.now) answers
-HasAnswers texts (Orders name aids) orders = IsTextOf (texts name.now) orders
-HasAnswers texts _ answers = answers ≡ []
+-- the name of the text of answers or orders, if any are evaluated
+abbrev pub answers_of : Told → Option (List ℕ)
+answers_of (Answers name aids) = Some name.now
+answers_of (Orders name aids) = Some name.now
+answers_of _ = None
 
--- the text of bounds, and an empty one where there is none
-abbrev pub HasBounds : Texts → Option (List ℕ) → List ℕ → Type 0
-HasBounds texts None bounds = bounds ≡ []
-HasBounds texts (Some name) bounds = IsTextOf (texts name) bounds
+-- the text of that name, and an empty one where there is none
+abbrev pub IsNamed : Texts → Option (List ℕ) → List ℕ → Type 0
+IsNamed texts None text = text ≡ []
+IsNamed texts (Some name) text = IsTextOf (texts name) text
 
 pub record AreBeside (texts : Texts) (told : Told) (beside : BesideData) : Type 0 where
-  pub answers : HasAnswers texts told beside.answers
-  pub bounds : HasBounds texts (bound_of told) beside.bounds
+  pub answers : IsNamed texts (answers_of told) beside.answers
+  pub bounds : IsNamed texts (bound_of told) beside.bounds
 
 -- all lines were written
 pub record EndsTold (texts : Texts) (series : Series) (writer : DeviceUse) (says : List ℕ → Type 0)

@@ -14,8 +14,8 @@ ghost use Rattle.tf_text.specs.Input.{IsTextOf};
 ghost use Rattle.tf_text.specs.declared.answer.layout.Layout.TheVariants.{One, Two};
 ghost use Rattle.tf_held.specs.declared.series.Stop.TheVariants.{Memory, Unwritten};
 ghost use Rattle.tf_held.specs.Texts.{beside_of, held_texts};
-ghost use Rattle.tf_held.specs.Series.{EndsSeries, HasAnswers, HasBounds, IsStopAt, IsUnwritten};
-ghost use Rattle.tf_held.specs.Series.{WritesAll, WritesUntil, bound_of, plain, without_bound};
+ghost use Rattle.tf_held.specs.Series.{EndsSeries, IsNamed, IsStopAt, IsUnwritten};
+ghost use Rattle.tf_held.specs.Series.{WritesAll, WritesUntil, answers_of, bound_of, plain, without_bound};
 ghost use Rattle.tf_held.specs.Series.{EndsUntold, IsPast};
 ghost use Rattle.tf_held.specs.Series.{IsTextIn, IsWorkFor, AreOptionsFor, IsFormFor};
 ghost use Rattle.tf_held.specs.AnswerTexts.{AreNext, IsNextFor};
@@ -99,11 +99,11 @@ pub fn perform_series<S: Sources, W: Write, E: Write>(
         Ok(text) => text,
         Err(status) => return status,
     };
-    let answers = match answers_named(console, sources, series) {
+    let answers = match text_beside(console, sources, series, answers_of(&series.told)) {
         Ok(text) => text,
         Err(status) => return status,
     };
-    let bounds = match bounds_named(console, sources, series) {
+    let bounds = match text_beside(console, sources, series, bound_of(&series.told)) {
         Ok(text) => text,
         Err(status) => return status,
     };
@@ -127,43 +127,13 @@ pub fn perform_series<S: Sources, W: Write, E: Write>(
     }
 }
 
-/// The text of the answers or orders, and an empty one where none are evaluated.
-fn answers_named<S: Sources, W: Write, E: Write>(
-    console: &mut Console<W, E>,
-    sources: &S,
-    series: &Series<'_>,
-) -> Result<Vec<u8>, u8>
-    ensures text { IfOk result (λ text.
-        HasAnswers (S.text_of sources.now) series.now.told text.items) }
-    ensures kept { IfOk result (λ _. console.new ≡ console.old) }
-    ensures unread { IfErr result (IsUnreadFor (S.text_of sources.now) series.now
-        (use_of W.contents console.old.writer console.new.writer)
-        (SaysLine E.contents false console.old.errors console.new.errors)) }
+/// The name of the text of answers or orders, if any are evaluated.
+fn answers_of<'a>(told: &Told<'a>) -> Option<&'a str>
+    ensures { option_map (λ name. name.now) result ≡ answers_of told.now }
 {
-    match series.told {
-        Told::Answers(name, _) | Told::Orders(name, _) => {
-            text_for(console, sources, series, name)
-        }
-        _ => Ok(Vec::new(console.alloc)),
-    }
-}
-
-/// The text of bounds, and an empty one where there is none.
-fn bounds_named<S: Sources, W: Write, E: Write>(
-    console: &mut Console<W, E>,
-    sources: &S,
-    series: &Series<'_>,
-) -> Result<Vec<u8>, u8>
-    ensures text { IfOk result (λ text.
-        HasBounds (S.text_of sources.now) (bound_of series.now.told) text.items) }
-    ensures kept { IfOk result (λ _. console.new ≡ console.old) }
-    ensures unread { IfErr result (IsUnreadFor (S.text_of sources.now) series.now
-        (use_of W.contents console.old.writer console.new.writer)
-        (SaysLine E.contents false console.old.errors console.new.errors)) }
-{
-    match bound_of(&series.told) {
-        Some(name) => text_for(console, sources, series, name),
-        None => Ok(Vec::new(console.alloc)),
+    match told {
+        Told::Answers(name, _) | Told::Orders(name, _) => Some(*name),
+        Told::Values | Told::Bounds(_) | Told::Ruled(..) => None,
     }
 }
 
@@ -174,6 +144,26 @@ fn bound_of<'a>(told: &Told<'a>) -> Option<&'a str>
     match told {
         Told::Answers(_, aids) | Told::Orders(_, aids) | Told::Ruled(_, aids) => aids.bound,
         Told::Values | Told::Bounds(_) => None,
+    }
+}
+
+/// The text of that name, and an empty one where there is none.
+fn text_beside<S: Sources, W: Write, E: Write>(
+    console: &mut Console<W, E>,
+    sources: &S,
+    series: &Series<'_>,
+    name: Option<&str>,
+) -> Result<Vec<u8>, u8>
+    ensures text { IfOk result (λ text.
+        IsNamed (S.text_of sources.now) (option_map (λ name. name.now) name.entry) text.items) }
+    ensures kept { IfOk result (λ _. console.new ≡ console.old) }
+    ensures unread { IfErr result (IsUnreadFor (S.text_of sources.now) series.now
+        (use_of W.contents console.old.writer console.new.writer)
+        (SaysLine E.contents false console.old.errors console.new.errors)) }
+{
+    match name {
+        Some(name) => text_for(console, sources, series, name),
+        None => Ok(Vec::new(console.alloc)),
     }
 }
 
