@@ -8,12 +8,12 @@ use test_runs::devices::{Failure, Sink, Source};
 use test_runs::examples::Given;
 use test_runs::growths::{Ended, ample, refuse_each_growth};
 use test_runs::runs::{Ending, ending_of, ensure, request};
-use tf_assess::assessment::Assessed;
 use tf_assess::bound_read::{BoundReadFault, bound_read};
 use tf_assess::offered::Aids;
 use tf_assess::run_assess::{AssessmentRequest, run_assess};
 use tf_bound_text::sheet::BoundSheet;
 use tf_engine::request::Request;
+use tf_evaluate::evaluation::Standing;
 use tf_search::effort::{Effort, Nobody};
 use tf_text::answer::layout::Layout;
 use tf_text::counted::Counted;
@@ -54,7 +54,7 @@ fn assess_beside(
     request: &Request,
     bound: &mut Source<'_>,
     sink: &mut Sink,
-) -> Result<Assessed, Unassessed> {
+) -> Result<Standing, Unassessed> {
     let mut reader = Counted::new(bound);
     match bound_read(heap, &mut reader) {
         Ok(sheet) => assess(heap, request, sheet, sink),
@@ -67,7 +67,7 @@ fn assess<'a>(
     request: &Request,
     sheet: BoundSheet<&'a Refusing<Global>>,
     sink: &mut Sink,
-) -> Result<Assessed, Unassessed> {
+) -> Result<Standing, Unassessed> {
     // Prices would bound as much, so no steps are taken for them.
     let effort: Effort<Nobody> = Effort::untold(Some(0));
     let offered = Some(sheet);
@@ -87,7 +87,7 @@ fn assessed_on(heap: &Refusing<Global>, alloc: Global, request: &Request) -> Res
     let mut bound = Source::new(BOUND);
     let mut sink = Sink::new(alloc);
     match assess_beside(heap, request, &mut bound, &mut sink) {
-        Ok(Assessed::Best) if sink.taken() == WRITTEN => Ok(Ended::Answered),
+        Ok(Standing::Best) if sink.taken() == WRITTEN => Ok(Ended::Answered),
         Err(fault) if is_want_of_memory(fault) && sink.calls() == 0 => Ok(Ended::OutOfMemory),
         _ => Err(Fail::new("another outcome")),
     }

@@ -21,8 +21,8 @@ use Rattle.tf_schedule.specs.ProblemJudged.{FitsBy}
 use Rattle.tf_search.specs.declared.strongest.Found.{Found}
 use Rattle.tf_search.specs.Strongest.{IsFound}
 use Rattle.tf_text.specs.AnswerText.{SheetData}
-use Rattle.tf_assess.specs.declared.assessment.ProblemFit.{ProblemFit}
-use Rattle.tf_assess.specs.declared.assessment.ProblemFit.TheVariants.{Fits, NoSchedule, Misfit}
+use Rattle.tf_evaluate.specs.declared.evaluation.ProblemFit.{ProblemFit}
+use Rattle.tf_evaluate.specs.declared.evaluation.ProblemFit.TheVariants.{Fits, NoSchedule, Misfit}
 use Rattle.tf_assess.specs.Assessing.{standing_by, assessed_of, counted_by, problem_outcomes, DrawsProblem, IsProblemJudged, HasProblemFit, HasProblemTable, HasAssessed}
 
 -- from the schedule to the pieces that it sorts

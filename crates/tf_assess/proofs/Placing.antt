@@ -17,9 +17,10 @@ use Rattle.tf_schedule.specs.Schedule.{IsSchedule, HasFirstFault}
 use Rattle.tf_fit.specs.CostBy.{IsCostOrBeyond}
 use Rattle.tf_schedule.specs.ProblemMisfit.{IsKnownTo}
 use Rattle.tf_schedule.specs.ProblemJudged.{FitsBy}
-use Rattle.tf_assess.specs.declared.assessment.ProblemFit.{ProblemFit}
-use Rattle.tf_assess.specs.declared.assessment.ProblemFit.TheVariants.{Fits, NoSchedule, Misfit}
-use Rattle.tf_assess.specs.Assessing.{IsProblemJudged, value_in}
+use Rattle.tf_evaluate.specs.declared.evaluation.ProblemFit.{ProblemFit}
+use Rattle.tf_evaluate.specs.declared.evaluation.ProblemFit.TheVariants.{Fits, NoSchedule, Misfit}
+use Rattle.tf_evaluate.specs.EvaluationData.{value_in}
+use Rattle.tf_assess.specs.Assessing.{IsProblemJudged}
 use Rattle.tf_assess.specs.Measures.{PosedData, IsMeasure, by_goal}
 use Rattle.tf_assess.specs.Placed.{serves, IsSorted, IsUnfit, HasTable}
 use Rattle.tf_assess.proofs.Assessing.{fits_judged}

@@ -9,8 +9,10 @@ use Rattle.tf_text.proofs.Written.{then}
 use Rattle.tf_posed.specs.ProblemData.{ProblemData}
 use Rattle.tf_assess.specs.declared.assessment.Assessment.{Assessment}
 use Rattle.tf_evaluate.specs.EvaluationText.{claimed_lines, outcome_words}
-use Rattle.tf_assess.specs.Assessing.{value_in, best_in}
-use Rattle.tf_assess.specs.AssessmentText.{fit_words, number_lines, gap_lines, offered_lines, bound_lines, judged_lines, assessment_text}
+use Rattle.tf_evaluate.specs.EvaluationData.{value_in}
+use Rattle.tf_evaluate.specs.EvaluationText.{fit_words, number_lines, gap_lines}
+use Rattle.tf_assess.specs.Assessing.{best_in}
+use Rattle.tf_assess.specs.AssessmentText.{offered_lines, bound_lines, judged_lines, assessment_text}
 
 -- lines, and then others
 lines_then : (t0 t1 t2 : List ℕ) (first others : List (List (List ℕ)))

@@ -20,6 +20,10 @@ use Rattle.tf_search.specs.declared.strongest.Found.{Found}
 use Rattle.tf_search.specs.Strongest.{IsFound}
 use Rattle.tf_text.specs.AnswerText.{SheetData}
 use Rattle.tf_evaluate.specs.declared.evaluation.JobOutcome.{JobOutcome}
+use Rattle.tf_evaluate.specs.declared.evaluation.Standing.{Standing}
+use Rattle.tf_evaluate.specs.declared.evaluation.Standing.TheVariants.{Best, Beaten, Unproved, Unfit}
+use Rattle.tf_evaluate.specs.declared.evaluation.WhyUnfit.TheVariants as reasons
+use Rattle.tf_evaluate.specs.EvaluationData.{value_in}
 use Rattle.tf_evaluate.specs.Outcomes.{outcome_by}
 use Rattle.tf_posed.specs.ProblemCost.{IsLowerBound}
 use Rattle.tf_bound.specs.declared.certificate.BoundCertificate.{BoundCertificate}
@@ -29,32 +33,27 @@ use Rattle.tf_bound_text.specs.BoundSheetData.{Basis, BoundSheetData, IsValueBy,
 use Rattle.tf_assess.specs.declared.assessment.Offered.{Offered}
 use Rattle.tf_assess.specs.declared.assessment.Offered.TheVariants.{Bounds, OtherTask, WrongValue, Faulty}
 use Rattle.tf_assess.specs.declared.offered.Weighed.{Weighed}
-use Rattle.tf_assess.specs.declared.assessment.ProblemFit.{ProblemFit}
-use Rattle.tf_assess.specs.declared.assessment.ProblemFit.TheVariants.{Fits, NoSchedule, Misfit}
-use Rattle.tf_assess.specs.declared.assessment.Assessed.{Assessed}
-use Rattle.tf_assess.specs.declared.assessment.Assessed.TheVariants.{Best, Unproved, Unfit}
+use Rattle.tf_evaluate.specs.declared.evaluation.ProblemFit.{ProblemFit}
+use Rattle.tf_evaluate.specs.declared.evaluation.ProblemFit.TheVariants.{Fits, NoSchedule, Misfit}
 use Rattle.tf_assess.specs.declared.assessment.Assessment.{Assessment}
 
 -- ---- the numbers
 
--- what the schedule costs, if it fits
-abbrev pub value_in : Option ProblemFit → Option ℤ
-value_in (Some (Fits value)) = value
-value_in _ = None
-
--- that, where it is the lower bound
+-- what the schedule costs, where it is the lower bound
 abbrev pub best_in : Option ℤ → ℤ → Option ℤ
 best_in (Some value) bound = if int_eq value bound then Some value else None
 best_in None bound = None
 
-abbrev pub standing_by : Option ℤ → Assessed
+abbrev pub standing_by : Option ℤ → Standing
 standing_by (Some best) = Best
 standing_by None = Unproved
 
--- a schedule that fits is best where it costs the bound
-abbrev pub assessed_of : Option ProblemFit → ℤ → Assessed
+-- a schedule that fits is best where it costs the bound; of another one, why it does not fit
+abbrev pub assessed_of : Option ProblemFit → ℤ → Standing
 assessed_of (Some (Fits value)) bound = standing_by (best_in value bound)
-assessed_of _ bound = Unfit
+assessed_of (Some (NoSchedule fault)) bound = Unfit (reasons.NoSchedule fault)
+assessed_of (Some (Misfit misfit)) bound = Unfit (reasons.Misfit misfit)
+assessed_of None bound = Unfit reasons.OtherTask
 
 -- ---- what they mean
 
@@ -187,12 +186,13 @@ HasProblemFit k sheet None = ¬ (IsForProblem k sheet)
 HasProblemFit k sheet (Some fit) = IsForProblem k sheet × IsProblemJudged k sheet.answer.pieces fit
 
 -- what the schedule comes to. Where it is best, every timetable that fits costs as much or more.
-abbrev pub HasAssessed : ProblemData → SheetData → Assessed → Type 0
+abbrev pub HasAssessed : ProblemData → SheetData → Standing → Type 0
 HasAssessed k sheet Best = IsForProblem k sheet × (rows : Timetable)
     × DrawsProblem k sheet.answer.pieces rows × IsProblemBest k rows (problem_cost k rows)
 HasAssessed k sheet Unproved = IsForProblem k sheet × (rows : Timetable)
     × DrawsProblem k sheet.answer.pieces rows
-HasAssessed k sheet Unfit = Unit {0}
+HasAssessed k sheet Beaten = ⊥
+HasAssessed k sheet (Unfit why) = Unit {0}
 
 pub record IsAssessment {A : Type 0} (k : ProblemData) (offer : Option BoundSheetData)
     (sheet : SheetData) (a : Assessment A) : Type 0 where

@@ -5,45 +5,16 @@ use Rattle.std.specs.Fmt.{decimal, signed_decimal}
 use Rattle.tf_notation.specs.Canonical.{canonical}
 use Rattle.tf_posed.specs.ProblemData.{ProblemData}
 use Rattle.tf_text.specs.AnswerText.{line_text}
-use Rattle.tf_engine.specs.VerdictLine.{piece_fault_words, misfit_words}
-use Rattle.tf_schedule.specs.declared.misfit.ProblemMisfit.{ProblemMisfit}
-use Rattle.tf_schedule.specs.declared.misfit.ProblemMisfit.TheVariants.{Plain, OffRoute, NoOneOrder, Waits}
 use Rattle.tf_bound.specs.declared.fault.BoundFault.{BoundFault}
 use Rattle.tf_bound.specs.declared.fault.BoundFault.TheVariants as faults
 use Rattle.tf_search.specs.declared.strongest.Found.{Found}
-use Rattle.tf_evaluate.specs.EvaluationText.{claimed_lines, outcome_words}
+use Rattle.tf_evaluate.specs.EvaluationData.{value_in}
+use Rattle.tf_evaluate.specs.EvaluationText.{fit_words, claimed_lines, number_lines, gap_lines, outcome_words}
 use Rattle.tf_bounding.specs.BoundText.{certificate_lines}
-use Rattle.tf_assess.specs.declared.assessment.ProblemFit.{ProblemFit}
-use Rattle.tf_assess.specs.declared.assessment.ProblemFit.TheVariants.{Fits, NoSchedule, Misfit}
 use Rattle.tf_assess.specs.declared.assessment.Offered.{Offered}
 use Rattle.tf_assess.specs.declared.assessment.Offered.TheVariants.{Bounds, OtherTask, WrongValue, Faulty}
 use Rattle.tf_assess.specs.declared.assessment.Assessment.{Assessment}
-use Rattle.tf_assess.specs.Assessing.{value_in, best_in}
-
--- a misfit by its name and its arguments
-abbrev pub problem_misfit_words : ProblemMisfit → List (List ℕ)
-problem_misfit_words (Plain misfit) = misfit_words misfit
-problem_misfit_words (OffRoute job) = codes "OffRoute" ∷ decimal job ∷ []
-problem_misfit_words NoOneOrder = codes "NoOneOrder" ∷ []
-problem_misfit_words (Waits job) = codes "Waits" ∷ decimal job ∷ []
-
--- `fits`, or `misfit` and why
-abbrev pub fit_words : Option ProblemFit → List (List ℕ)
-fit_words None = codes "misfit" ∷ codes "OtherTask" ∷ []
-fit_words (Some (Fits value)) = codes "fits" ∷ []
-fit_words (Some (NoSchedule fault)) = codes "misfit" ∷ piece_fault_words fault
-fit_words (Some (Misfit misfit)) = codes "misfit" ∷ problem_misfit_words misfit
-
--- a line of a number that may be missing
-abbrev pub number_lines : List ℕ → Option ℤ → List (List (List ℕ))
-number_lines name None = []
-number_lines name (Some number) = (name ∷ signed_decimal number ∷ []) ∷ []
-
--- by how much the value is above the bound
-abbrev pub gap_lines : Option ℤ → ℤ → List (List (List ℕ))
-gap_lines (Some value) bound =
-    (codes "gap" ∷ decimal (unsigned_abs (value -ℤ bound)) ∷ []) ∷ []
-gap_lines None bound = []
+use Rattle.tf_assess.specs.Assessing.{best_in}
 
 -- why a certificate bounds nothing, by its name and its arguments; machines count from 1
 abbrev pub certificate_fault_words : BoundFault → List (List ℕ)

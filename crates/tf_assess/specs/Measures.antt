@@ -14,9 +14,10 @@ use Rattle.tf_schedule.specs.declared.piece.Piece.{Piece}
 use Rattle.tf_text.specs.AnswerText.{line_text}
 use Rattle.tf_engine.specs.RequestData.{RequestData}
 use Rattle.tf_bounding.specs.ShopTimes.{timed_said}
-use Rattle.tf_assess.specs.Assessing.{IsProblemJudged, value_in}
-use Rattle.tf_assess.specs.declared.assessment.ProblemFit.{ProblemFit}
-use Rattle.tf_assess.specs.declared.assessment.ProblemFit.TheVariants.{Fits}
+use Rattle.tf_evaluate.specs.EvaluationData.{value_in}
+use Rattle.tf_assess.specs.Assessing.{IsProblemJudged}
+use Rattle.tf_evaluate.specs.declared.evaluation.ProblemFit.{ProblemFit}
+use Rattle.tf_evaluate.specs.declared.evaluation.ProblemFit.TheVariants.{Fits}
 use Rattle.tf_assess.specs.declared.measures.Measures.{Measures}
 
 -- an instance, and how a problem reads it

@@ -10,8 +10,8 @@ use Rattle.tf_schedule.specs.Schedule.{IsSchedule, HasFirstFault}
 use Rattle.tf_schedule.specs.Lanes.{LanesData}
 use Rattle.tf_assess.specs.Assessing.{IsProblemJudged, IsSorting}
 use Rattle.tf_assess.specs.Measures.{PosedData, by_goal}
-use Rattle.tf_assess.specs.declared.assessment.ProblemFit.{ProblemFit}
-use Rattle.tf_assess.specs.declared.assessment.ProblemFit.TheVariants.{Fits}
+use Rattle.tf_evaluate.specs.declared.evaluation.ProblemFit.{ProblemFit}
+use Rattle.tf_evaluate.specs.declared.evaluation.ProblemFit.TheVariants.{Fits}
 use Rattle.tf_assess.specs.declared.placed.Placed.{Placed}
 
 -- a task by the first objective has the fields that the second looks at

@@ -17,7 +17,7 @@ use Rattle.tf_plan.specs.Order.{IsFeasible}
 use Rattle.tf_bounding.specs.Feasible.{IsCyclicTask}
 use Rattle.tf_bounding.specs.RunBounding.{problem_in, problem_task_for, IsRefusedBound}
 use Rattle.tf_bound_text.specs.BoundSheetData.{BoundSheetData}
-use Rattle.tf_assess.specs.declared.assessment.Assessed.{Assessed}
+use Rattle.tf_evaluate.specs.declared.evaluation.Standing.{Standing}
 use Rattle.tf_assess.specs.declared.assessment.Assessment.{Assessment}
 use Rattle.tf_assess.specs.declared.case_read.ProblemCase.{ProblemCase}
 use Rattle.tf_assess.specs.Assessing.{assessed_of, IsAssessment}
@@ -56,12 +56,12 @@ HasProblemReaderFailed request text instance answer =
 -- a run over an instance and an answer, which writes an assessment and returns what the schedule
 -- comes to
 abbrev pub assessment_run : Type 0 → Option BoundSheetData → RequestData → DeviceUse → DeviceUse
-    → Run (List ℕ × List ℕ) Assessed
+    → Run (List ℕ × List ℕ) Standing
 assessment_run A offer request instance answer = record {
   Over = λ texts. IsTextOf instance.before texts.0 × IsTextOf answer.before texts.1;
-  Says = λ texts assessed out. (a : Assessment A)
+  Says = λ texts standing out. (a : Assessment A)
       × IsAssessed offer request texts.0 texts.1 out a
-      × (assessed ≡ assessed_of a.fit a.bound.value);
+      × (standing ≡ assessed_of a.fit a.bound.value);
   IsRefused = λ texts refused. IsRefusedAssessing request texts.0 texts.1 refused;
   ReaderFailed = λ texts. HasProblemReaderFailed request texts.0 instance answer;
 }

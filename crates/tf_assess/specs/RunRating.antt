@@ -12,10 +12,7 @@ use Rattle.tf_engine.specs.Runs.{IsOutcome}
 use Rattle.tf_bounding.specs.RunBounding.{problem_in}
 use Rattle.tf_evaluate.specs.declared.evaluation.Detail.{Detail}
 use Rattle.tf_evaluate.specs.declared.evaluation.Standing.{Standing}
-use Rattle.tf_evaluate.specs.declared.evaluation.Standing.TheVariants as standings
 use Rattle.tf_evaluate.specs.RunEvaluating.{evaluation_run}
-use Rattle.tf_assess.specs.declared.assessment.Assessed.{Assessed}
-use Rattle.tf_assess.specs.declared.assessment.Assessed.TheVariants.{Best, Unproved, Unfit}
 use Rattle.tf_assess.specs.RunAssessing.{assessment_run}
 
 -- whether the problem of a line is of a class, which has a solver
@@ -25,17 +22,6 @@ is_solved_by (Err byte) = false
 
 abbrev pub is_solved : List ℕ → Bool
 is_solved text = is_solved_by (notation text)
-
--- what a schedule comes to, told as of a problem that is solved: a schedule that is not proved to be
--- best counts as one that is beaten
-abbrev pub standing_as : Assessed → Standing
-standing_as Best = standings.Best
-standing_as Unproved = standings.Beaten
-standing_as Unfit = standings.Unfit
-
-abbrev pub rated : {A : Type 0} → Result Assessed (RunFault A) → Result Standing (RunFault A)
-rated (Ok assessed) = Ok (standing_as assessed)
-rated (Err fault) = Err fault
 
 -- the problem of a line: of a class, or one of which some kind of certificate bounds the tasks
 abbrev pub posed_problem : List ℕ → Result Problem Refused
@@ -47,6 +33,4 @@ pub record IsRatingOf {A : Type 0} (detail : Detail) (request : RequestData)
   pub solved : IsTrue (is_solved request.problem)
       → IsOutcome (evaluation_run detail request instance answer) writer result
   pub unsolved : IsFalse (is_solved request.problem)
-      → (run : Result Assessed (RunFault A))
-      × IsOutcome (assessment_run A None request instance answer) writer run
-      × (result ≡ rated run)
+      → IsOutcome (assessment_run A None request instance answer) writer result

@@ -6,13 +6,13 @@ ghost use Rattle.tf_assess.specs.Assessing.{IsForProblem, IsOfTask, IsProblemJud
 ghost use Rattle.tf_assess.specs.Assessing.{HasProblemTable, IsSorting, problem_outcomes};
 ghost use Rattle.tf_schedule.specs.declared.piece.Piece.{Piece as PieceData};
 
-use crate::assessment::{Assessment, ProblemFit};
+use crate::assessment::Assessment;
 use crate::offered::{Aids, Weighed, weigh};
 use crate::outcomes::outcomes;
 use std::alloc::Allocator;
 use tf_bound::task::ProblemTask;
 use tf_check::answer::Answer;
-use tf_evaluate::evaluation::JobOutcome;
+use tf_evaluate::evaluation::{JobOutcome, ProblemFit};
 use tf_fit::cost::cost_by;
 use tf_model::memory::OutOfMemory;
 use tf_model::problem::Problem;

@@ -1,33 +1,8 @@
 //! What an assessment says.
 use std::alloc::{Allocator, Global};
 use tf_bound::fault::BoundFault;
-use tf_evaluate::evaluation::JobOutcome;
-use tf_schedule::misfit::ProblemMisfit;
-use tf_schedule::schedule::PieceFault;
+use tf_evaluate::evaluation::{JobOutcome, ProblemFit, Standing, WhyUnfit, value_in};
 use tf_search::strongest::Found;
-
-/// How the pieces of an answer stand to the task of a problem.
-#[derive(Debug, Drop, PartialEq, Eq)]
-pub enum ProblemFit {
-    /// They draw a timetable that fits, and this is what it costs: none where that is 2^127 or
-    /// more.
-    Fits(Option<i128>),
-    /// They make no schedule.
-    NoSchedule(PieceFault),
-    /// The schedule does not fit.
-    Misfit(ProblemMisfit),
-}
-
-/// What a schedule comes to.
-#[derive(Clone, Copy, Debug, Drop, PartialEq, Eq)]
-pub enum Assessed {
-    /// It fits and costs the bound, so none that fits costs less.
-    Best,
-    /// It fits, and the bound does not show whether one that fits costs less.
-    Unproved,
-    /// It does not fit, or is for another task.
-    Unfit,
-}
 
 /// What an offered bound comes to on a task.
 #[derive(Clone, Copy, Debug, PartialEq, Eq)]
@@ -59,16 +34,14 @@ pub struct Assessment<A: Allocator = Global> {
 
 impl<A: Allocator> Assessment<A> {
     ghost use Rattle.std.specs.Prelude.{◌≡◌};
-    ghost use Rattle.tf_assess.specs.Assessing.{value_in, best_in, assessed_of};
+    ghost use Rattle.tf_evaluate.specs.EvaluationData.{value_in};
+    ghost use Rattle.tf_assess.specs.Assessing.{best_in, assessed_of};
 
     /// What the schedule costs, if it fits.
     pub fn value(&self) -> Option<i128>
         ensures { result ≡ value_in self.now.fit }
     {
-        match &self.fit {
-            Some(ProblemFit::Fits(value)) => *value,
-            _ => None,
-        }
+        value_in(&self.fit)
     }
 
     /// The least cost of a timetable that fits, where the schedule shows it.
@@ -81,14 +54,18 @@ impl<A: Allocator> Assessment<A> {
         }
     }
 
-    /// What the schedule comes to.
-    pub fn assessed(&self) -> Assessed
+    /// What the schedule comes to: it is best where it costs the bound.
+    pub fn standing(&self) -> Standing
         ensures { result ≡ assessed_of self.now.fit self.now.bound.value }
     {
         match (&self.fit, self.best()) {
-            (Some(ProblemFit::Fits(_)), Some(_)) => Assessed::Best,
-            (Some(ProblemFit::Fits(_)), None) => Assessed::Unproved,
-            _ => Assessed::Unfit,
+            (Some(ProblemFit::Fits(_)), Some(_)) => Standing::Best,
+            (Some(ProblemFit::Fits(_)), None) => Standing::Unproved,
+            (Some(ProblemFit::NoSchedule(fault)), _) => {
+                Standing::Unfit(WhyUnfit::NoSchedule(*fault))
+            }
+            (Some(ProblemFit::Misfit(misfit)), _) => Standing::Unfit(WhyUnfit::Misfit(*misfit)),
+            (None, _) => Standing::Unfit(WhyUnfit::OtherTask),
         }
     }
 }

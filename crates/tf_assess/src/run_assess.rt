@@ -8,7 +8,6 @@ ghost use Rattle.tf_bounding.specs.RunBounding.{problem_in};
 ghost use Rattle.tf_assess.specs.RunAssessing.{assessment_run};
 
 use crate::assess::assess;
-use crate::assessment::Assessed;
 use crate::case_read::{ProblemCase, problem_case_read};
 use crate::offered::Aids;
 use crate::writing::assessment_bytes;
@@ -18,6 +17,7 @@ use tf_bounding::feasible::check_feasible;
 use tf_engine::fault::RunFault;
 use tf_engine::output::{Output, write_output};
 use tf_engine::request::Request;
+use tf_evaluate::evaluation::Standing;
 use tf_search::effort::Progress;
 use tf_text::counted::Counted;
 
@@ -49,7 +49,7 @@ pub fn run_assess<
     instance: &mut Counted<R>,
     answer: &mut Counted<S>,
     writer: &mut Counted<W>,
-) -> Result<Assessed, RunFault<A>>
+) -> Result<Standing, RunFault<A>>
     ensures outcome { IsOutcome (assessment_run A asked.entry.aids.offered asked.entry.request.now
         (use_of R.remaining instance.old instance.new)
         (use_of S.remaining answer.old answer.new)) (use_of W.contents writer.old writer.new)
@@ -67,7 +67,7 @@ fn assessment_output<A: Allocator + Copy, B: Allocator, P: Progress + Drop, R: R
     asked: AssessmentRequest<'_, P, A, B>,
     instance: &mut Counted<R>,
     answer: &mut Counted<S>,
-) -> Result<Output<Assessed, A>, RunFault<A>>
+) -> Result<Output<Standing, A>, RunFault<A>>
     ensures { MakesOutput (assessment_run A asked.entry.aids.offered asked.entry.request.now
         (use_of R.remaining instance.old instance.new)
         (use_of S.remaining answer.old answer.new))
@@ -80,6 +80,6 @@ fn assessment_output<A: Allocator + Copy, B: Allocator, P: Progress + Drop, R: R
     check_feasible(alloc, &task)?;
     let assessment = assess(alloc, &task, sheet, aids)?;
     let text = assessment_bytes(alloc, &task, &assessment)?;
-    let returned = assessment.assessed();
+    let returned = assessment.standing();
     Ok(Output { text, returned })
 }

@@ -3,10 +3,8 @@ ghost use Rattle.std.specs.Prelude.{◌≡◌};
 ghost use Rattle.tf_text.specs.Counted.{use_of};
 ghost use Rattle.tf_engine.specs.Devices.{LeavesCase};
 ghost use Rattle.tf_engine.specs.Faults.{end_of};
-ghost use Rattle.tf_assess.specs.RunRating.{IsRatingOf, is_solved, posed_problem, rated};
-ghost use Rattle.tf_assess.specs.RunRating.{standing_as};
+ghost use Rattle.tf_assess.specs.RunRating.{IsRatingOf, is_solved, posed_problem};
 
-use crate::assessment::Assessed;
 use crate::offered::Aids;
 use crate::run_assess::{AssessmentRequest, run_assess};
 use std::alloc::{Allocator, Global};
@@ -64,28 +62,7 @@ pub fn run_rate<A: Allocator + Copy, B: Allocator, R: Read, S: Read, W: Write>(
         offered: None,
     };
     let assessed = AssessmentRequest { request, aids };
-    rated(run_assess(alloc, assessed, instance, answer, writer))
-}
-
-/// What is reported of an assessment.
-pub fn rated<A: Allocator>(run: Result<Assessed, RunFault<A>>) -> Result<Standing, RunFault<A>>
-    ensures { result ≡ rated run }
-{
-    match run {
-        Ok(assessed) => Ok(standing_as(assessed)),
-        Err(fault) => Err(fault),
-    }
-}
-
-/// What a schedule comes to, told as of a problem that is solved.
-pub fn standing_as(assessed: Assessed) -> Standing
-    ensures { result ≡ standing_as assessed }
-{
-    match assessed {
-        Assessed::Best => Standing::Best,
-        Assessed::Unproved => Standing::Beaten,
-        Assessed::Unfit => Standing::Unfit,
-    }
+    run_assess(alloc, assessed, instance, answer, writer)
 }
 
 /// Whether the problem of a line is of a class, which has a solver.

@@ -3,22 +3,20 @@ ghost use Rattle.std.specs.Prelude.{◌≡◌, [], ◌∷◌, ◌++◌, length, 
 ghost use Rattle.std.specs.List.{flat_map, join_with_byte};
 ghost use Rattle.std.specs.Fmt.{decimal};
 ghost use Rattle.tf_text.specs.AnswerText.{line_text};
-ghost use Rattle.tf_assess.specs.AssessmentText.{certificate_fault_words, problem_misfit_words};
-ghost use Rattle.tf_assess.specs.AssessmentText.{fit_words, number_lines, gap_lines, offered_words};
+ghost use Rattle.tf_assess.specs.AssessmentText.{certificate_fault_words, offered_words};
 ghost use Rattle.tf_assess.specs.AssessmentText.{offered_lines, bound_lines, judged_lines};
 ghost use Rattle.tf_assess.specs.AssessmentText.{assessment_text};
 
-use crate::assessment::{Assessment, Offered, ProblemFit};
+use crate::assessment::{Assessment, Offered};
 use std::alloc::Allocator;
 use tf_bound::fault::BoundFault;
 use tf_bound::task::ProblemTask;
 use tf_bounding::writing::push_certificate;
-use tf_engine::verdict_line::{push_misfit, push_piece_fault};
-use tf_evaluate::writing::{push_claimed, push_outcomes};
-use tf_model::ids::JobId;
+use tf_evaluate::writing::{
+    push_claimed, push_fit, push_gap, push_named, push_outcomes, push_some,
+};
 use tf_model::memory::OutOfMemory;
 use tf_notation::writing::notation_text;
-use tf_schedule::misfit::ProblemMisfit;
 use tf_search::strongest::Found;
 use tf_text::answer::writing::{push_number, push_number_line};
 
@@ -59,89 +57,6 @@ fn push_judged<A: Allocator, M: Allocator>(
     push_offered(text, &assessment.offered)?;
     push_bound(text, &assessment.bound)?;
     Ok(())
-}
-
-/// Adds the line `fits`, or `misfit` and why.
-pub fn push_fit<A: Allocator>(
-    text: &mut Vec<u8, A>,
-    fit: &Option<ProblemFit>,
-) -> Result<(), OutOfMemory>
-    ensures { OnOk result (text.new.items ≡ text.old.items ++ line_text (fit_words fit.now)) }
-{
-    match fit {
-        Some(ProblemFit::Fits(_)) => text.extend_from_slice(b"fits\n")?,
-        None => text.extend_from_slice(b"misfit OtherTask\n")?,
-        Some(ProblemFit::NoSchedule(fault)) => {
-            text.extend_from_slice(b"misfit ")?;
-            push_piece_fault(text, fault)?;
-            text.push(b'\n')?;
-        }
-        Some(ProblemFit::Misfit(misfit)) => {
-            text.extend_from_slice(b"misfit ")?;
-            push_problem_misfit(text, misfit)?;
-            text.push(b'\n')?;
-        }
-    }
-    Ok(())
-}
-
-// A misfit by its name and its arguments.
-fn push_problem_misfit<A: Allocator>(
-    text: &mut Vec<u8, A>,
-    misfit: &ProblemMisfit,
-) -> Result<(), OutOfMemory>
-    ensures { OnOk result (text.new.items
-        ≡ text.old.items ++ join_with_byte 32 (problem_misfit_words misfit.now)) }
-{
-    match misfit {
-        ProblemMisfit::Plain(misfit) => push_misfit(text, misfit)?,
-        ProblemMisfit::OffRoute(job) => push_named(text, b"OffRoute", *job)?,
-        ProblemMisfit::NoOneOrder => text.extend_from_slice(b"NoOneOrder")?,
-        ProblemMisfit::Waits(job) => push_named(text, b"Waits", *job)?,
-    }
-    Ok(())
-}
-
-// A name and a job.
-fn push_named<A: Allocator>(
-    text: &mut Vec<u8, A>,
-    name: &[u8],
-    job: JobId,
-) -> Result<(), OutOfMemory>
-    ensures { OnOk result
-        (text.new.items ≡ text.old.items ++ join_with_byte 32 (name.now ∷ decimal job ∷ [])) }
-{
-    text.extend_from_slice(name)?;
-    push_number(text, job.get())
-}
-
-// A line of a number that may be missing.
-fn push_some<A: Allocator>(
-    text: &mut Vec<u8, A>,
-    name: &[u8],
-    number: Option<i128>,
-) -> Result<(), OutOfMemory>
-    ensures { OnOk result
-        (text.new.items ≡ text.old.items ++ flat_map line_text (number_lines name.now number)) }
-{
-    match number {
-        Some(number) => push_number_line(text, name, number),
-        None => Ok(()),
-    }
-}
-
-fn push_gap<A: Allocator>(
-    text: &mut Vec<u8, A>,
-    value: Option<i128>,
-    bound: i128,
-) -> Result<(), OutOfMemory>
-    ensures { OnOk result
-        (text.new.items ≡ text.old.items ++ flat_map line_text (gap_lines value bound)) }
-{
-    match value {
-        Some(value) => push_number_line(text, b"gap", value.abs_diff(bound)),
-        None => Ok(()),
-    }
 }
 
 // What an offered bound comes to, if one was offered.

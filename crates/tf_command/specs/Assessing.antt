@@ -10,9 +10,8 @@ use Rattle.tf_bound_text.specs.BoundSheetData.{BoundSheetData}
 use Rattle.tf_bound_text.specs.BoundReading.{bound_in}
 use Rattle.tf_assess.specs.BoundRead.{IsUnread}
 use Rattle.tf_assess.specs.declared.bound_read.BoundReadFault.{BoundReadFault}
-use Rattle.tf_assess.specs.declared.assessment.Assessed.{Assessed}
+use Rattle.tf_evaluate.specs.declared.evaluation.Standing.{Standing}
 use Rattle.tf_assess.specs.RunAssessing.{assessment_run}
-use Rattle.tf_assess.specs.RunRating.{rated}
 use Rattle.tf_command.specs.Ending.{line_of, status_of_evaluating}
 use Rattle.tf_command.specs.BoundLine.{bound_fault_line, status_of_bound}
 
@@ -31,10 +30,10 @@ pub record EndsUnread (bound writer : DeviceUse) (says : List ℕ → Type 0) (s
 -- the answer was assessed beside what is offered
 pub record EndsAssessed (A : Type 0) (offer : Option BoundSheetData) (request : RequestData)
     (instance answer writer : DeviceUse) (says : List ℕ → Type 0) (status : ℕ) : Type 0 where
-  pub run : Result Assessed (RunFault A)
+  pub run : Result Standing (RunFault A)
   pub outcome : IsOutcome (assessment_run A offer request instance answer) writer run
-  pub ends : status ≡ status_of_evaluating (rated run)
-  pub said : says (line_of (rated run))
+  pub ends : status ≡ status_of_evaluating run
+  pub said : says (line_of run)
 
 -- the text of the bound says a sheet, beside which the answer was assessed
 pub record EndsBeside (A : Type 0) (request : RequestData) (instance answer bound writer : DeviceUse)

@@ -7,7 +7,7 @@ use Rattle.tf_engine.specs.declared.run_check.Checked.TheVariants.{Accepted, Oth
 use Rattle.tf_random.specs.declared.run_random.RandomFault.{RandomFault}
 use Rattle.tf_random.specs.declared.run_random.RandomFault.TheVariants.{Notation, NotInATable, OutOfMemory}
 use Rattle.tf_evaluate.specs.declared.evaluation.Standing.{Standing}
-use Rattle.tf_evaluate.specs.declared.evaluation.Standing.TheVariants.{Best, Beaten, Unfit}
+use Rattle.tf_evaluate.specs.declared.evaluation.Standing.TheVariants.{Best, Beaten, Unproved, Unfit}
 
 abbrev pub status_by : Stop → ℕ
 status_by (Refuses refused) = 2
@@ -27,7 +27,8 @@ status_of_check (Rejected reason) = 1
 -- after an evaluation: best, does not fit, or fits and is beaten
 abbrev pub status_of_standing : Standing → ℕ
 status_of_standing Best = 0
-status_of_standing Unfit = 1
+status_of_standing Unproved = 6
+status_of_standing (Unfit why) = 1
 status_of_standing Beaten = 6
 
 -- where there is no random table: it is refused, or there was no memory

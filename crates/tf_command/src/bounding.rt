@@ -17,10 +17,9 @@ use crate::recorded::Recorded;
 use itoa::Buffer;
 use std::io::{Read, Write};
 use tf_asked::options::Evaluating;
-use tf_assess::assessment::Assessed;
 use tf_assess::offered::Aids;
 use tf_assess::run_assess::{AssessmentRequest, run_assess};
-use tf_assess::run_rate::{RatingRequest, is_solved, rated, run_rate};
+use tf_assess::run_rate::{RatingRequest, is_solved, run_rate};
 use tf_bounding::run_bound::run_bound;
 use tf_engine::fault::RunFault;
 use tf_engine::request::Request;
@@ -172,7 +171,7 @@ pub(crate) fn rate_over<R: Read, S: Read, W: Write, E: Write>(
             offered: None,
         };
         let asked = AssessmentRequest { request, aids };
-        return rated(assess_over(console, is_told, asked, instance, answer));
+        return assess_over(console, is_told, asked, instance, answer);
     }
     let asked = RatingRequest {
         request,
@@ -189,7 +188,7 @@ pub(crate) fn assess_over<R: Read, S: Read, W: Write, E: Write>(
     asked: AssessmentRequest<'_, Nobody>,
     instance: &mut Counted<Recorded<'_, R>>,
     answer: &mut Counted<Recorded<'_, S>>,
-) -> Result<Assessed, RunFault>
+) -> Result<Standing, RunFault>
     ensures outcome { IsOutcome (assessment_run Global asked.entry.aids.offered
         asked.entry.request.now
         (use_of (bytes_left R.remaining) instance.old instance.new)

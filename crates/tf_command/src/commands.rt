@@ -33,7 +33,6 @@ use tf_asked::options::{Assessing, Drawing, Evaluating, Options, Work};
 use tf_assess::bound_read::bound_read;
 use tf_assess::offered::Aids;
 use tf_assess::run_assess::AssessmentRequest;
-use tf_assess::run_rate::rated;
 use tf_bound_text::sheet::BoundSheet;
 use tf_engine::fault::RunFault;
 use tf_engine::run_check::run_check;
@@ -590,7 +589,7 @@ fn assess_offered<R: Read, S: Read, W: Write, E: Write>(
         aids,
     };
     let explain = options.telling.explain;
-    let run = rated(assess_over(console, explain, asked, instance, answer));
+    let run = assess_over(console, explain, asked, instance, answer);
     let status = end_evaluation(&run, &mut console.errors);
     let ended = Ended {
         alloc,

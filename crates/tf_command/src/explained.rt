@@ -13,7 +13,7 @@ use tf_dated::run_dated::Pictured;
 use tf_engine::fault::RunFault;
 use tf_engine::request::{Form, Request};
 use tf_engine::run_check::Checked;
-use tf_evaluate::evaluation::Standing;
+use tf_evaluate::evaluation::{Standing, WhyUnfit};
 use tf_explain::explain;
 use tf_model::limit::LIMIT;
 use tf_model::prepare::Refusal;
@@ -275,9 +275,9 @@ impl Ended<'_> {
     {
         if let Some(told) = Told::of_both(instance, answer) {
             let explanation = match run {
-                Ok(Standing::Unfit) => {
+                Ok(Standing::Unfit(why)) => {
                     let answer = told.answer.as_ref();
-                    explain::unfit(self.alloc, self.request, &told.instance, answer)
+                    explain::unfit(self.alloc, why, self.request, &told.instance, answer)
                 }
                 Ok(_) => {
                     let answer = told.answer.as_ref();
@@ -307,29 +307,31 @@ impl Ended<'_> {
     }
 
     // What is said of a schedule that does not fit.
-    fn unfit_rated(&self, rated: &Rated<'_>, told: &Told<'_>) -> Result<String, AllocError> {
-        let Some(pieces) = self.rated_pieces(rated, told) else {
-            return Ok(String::new(self.alloc));
-        };
-        let schedule = if matches!(rated.form, OrderForm::Pieces(_)) {
-            told.answer.as_ref()
-        } else {
-            None
-        };
-        explain::unfit_pieces(self.alloc, self.request, &told.instance, pieces, schedule)
+    fn unfit_rated(
+        &self,
+        rated: &Rated<'_>,
+        told: &Told<'_>,
+        why: &WhyUnfit,
+    ) -> Result<String, AllocError> {
+        let (request, instance) = (self.request, &told.instance);
+        if matches!(rated.form, OrderForm::Pieces(_)) {
+            return explain::unfit(self.alloc, why, request, instance, told.answer.as_ref());
+        }
+        match self.rated_pieces(rated, told) {
+            Some(pieces) => explain::unfit_order(self.alloc, why, request, instance, &pieces),
+            None => Ok(String::new(self.alloc)),
+        }
     }
 
     // What is said of one that fits.
     fn fit_rated(&self, rated: &Rated<'_>, told: &Told<'_>) -> Result<String, AllocError> {
+        let (request, instance) = (self.request, &told.instance);
+        if !explain::may_have_working(request) {
+            return Ok(String::new(self.alloc));
+        }
         match self.rated_pieces(rated, told) {
             Some(pieces) => {
-                explain::fit_pieces(
-                    self.alloc,
-                    self.request,
-                    &told.instance,
-                    pieces,
-                    self.telling.style,
-                )
+                explain::fit_pieces(self.alloc, request, instance, pieces, self.telling.style)
             }
             None => Ok(String::new(self.alloc)),
         }
@@ -367,7 +369,9 @@ impl Ended<'_> {
     {
         if let Some(told) = Told::of_both(instance, orders) {
             let explanation = match rated.run {
-                Ok(OrdersRated::Single(Standing::Unfit)) => self.unfit_rated(&rated, &told),
+                Ok(OrdersRated::Single(Standing::Unfit(why))) => {
+                    self.unfit_rated(&rated, &told, why)
+                }
                 Ok(OrdersRated::Single(_)) => self.fit_rated(&rated, &told),
                 Ok(OrdersRated::Lines) => Ok(String::new(self.alloc)),
                 Err(RunFault::Answer(AnswerFault::BadLine(line))) => {

@@ -98,8 +98,8 @@ pub fn status_of_standing(standing: &Standing) -> u8
 {
     match standing {
         Standing::Best => 0,
-        Standing::Unfit => 1,
-        Standing::Beaten => 6,
+        Standing::Unfit(_) => 1,
+        Standing::Beaten | Standing::Unproved => 6,
     }
 }
 

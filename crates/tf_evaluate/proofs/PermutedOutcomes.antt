@@ -19,6 +19,7 @@ use Rattle.tf_schedule.proofs.Permuted.{map_same}
 use Rattle.tf_check.specs.declared.judgement.Fit.{Fit}
 use Rattle.tf_check.specs.declared.judgement.Fit.TheVariants.{Fits, NoSchedule, Misfit}
 use Rattle.tf_evaluate.specs.declared.evaluation.JobOutcome.{JobOutcome}
+use Rattle.tf_evaluate.specs.EvaluationData.{problem_fit}
 use Rattle.tf_evaluate.specs.Evaluating.{outcomes_for}
 use Rattle.tf_evaluate.specs.Outcomes.{first_start, outcome_by, outcome_on, outcome_in}
 
@@ -143,7 +144,7 @@ table_stops k ps (Misfit misfit) l (qs, kept, schedule, l', is, has) =
 
 pub table_outcomes : (k : SchedulingTask) (ps : List Piece) (fit : Fit) (l : LanesData)
     → HasTable k ps fit (Some l)
-    → map (outcome_in k l) (all_jobs k) ≡ outcomes_for k ps (Some fit)
+    → map (outcome_in k l) (all_jobs k) ≡ outcomes_for k ps (Some (problem_fit fit))
 table_outcomes k ps (Fits value) l (qs, kept, schedule, l', is, has) =
     sorted_outcomes (price k) (length k.jobs) ps qs kept schedule l
     (subst (HasLanes (length k.jobs) qs) (same l l' is) has)
@@ -160,7 +161,7 @@ table_outcomes k ps (Misfit misfit) l (qs, kept, schedule, l', is, has) =
 
 -- without a table there is no schedule
 pub no_outcomes : (k : SchedulingTask) (ps : List Piece) (fit : Fit) → HasTable k ps fit None
-    → [] ≡ outcomes_for k ps (Some fit)
+    → [] ≡ outcomes_for k ps (Some (problem_fit fit))
 no_outcomes k ps (Fits value) (qs, kept, schedule, l, is, has) = absurd (cc)
 no_outcomes k ps (NoSchedule fault) is = refl
 no_outcomes k ps (Misfit misfit) (qs, kept, schedule, l, is, has) = absurd (cc)

@@ -25,10 +25,13 @@ use Rattle.tf_check.specs.declared.fault.BoundFault.{BoundFault}
 use Rattle.tf_check.specs.Verdict.{DrawsFitting}
 use Rattle.tf_check.proofs.Verdicts.{fault_excludes}
 use Rattle.tf_text.specs.AnswerText.{SheetData}
+use Rattle.tf_engine.specs.Checking.{IsFor}
 use Rattle.tf_check.specs.declared.judgement.Fit.{Fit}
 use Rattle.tf_check.specs.declared.judgement.Fit.TheVariants.{Fits, NoSchedule, Misfit}
 use Rattle.tf_evaluate.specs.declared.evaluation.Standing.TheVariants.{Best, Beaten}
-use Rattle.tf_evaluate.specs.EvaluationData.{standing_of}
+use Rattle.tf_evaluate.specs.declared.evaluation.ProblemFit.{ProblemFit}
+use Rattle.tf_evaluate.specs.declared.evaluation.ProblemFit.TheVariants as fits
+use Rattle.tf_evaluate.specs.EvaluationData.{problem_fit, standing_of}
 use Rattle.tf_evaluate.specs.declared.evaluation.Detail.{Detail}
 use Rattle.tf_evaluate.specs.declared.step.Step.{Step}
 use Rattle.tf_evaluate.specs.Evaluating.{IsLeastCost, HasFit, HasStanding, HasGap, ShowsLeast, bound_for, EndsInBound, IsOptimum, steps_for}
@@ -48,8 +51,8 @@ more (negsuc a) (pos b) e = cc
 more (negsuc a) (negsuc b) e = record { lt = subst T (sym (lt-ltb a b (below b a e))) tt }
 
 fitting_standing : (k : SchedulingTask) (sheet : SheetData) (value best : ℤ) (b : Bool)
-    → int_le value best ≡ b → HasFit k sheet (Some (Fits value)) → IsLeastCost k best
-    → HasStanding k sheet (cond b Best Beaten)
+    → int_le value best ≡ b → IsFor k sheet × IsJudged k sheet.answer.pieces (Fits value)
+    → IsLeastCost k best → HasStanding k sheet (cond b Best Beaten)
 fitting_standing k sheet value best true e (is, (rows, fitting, costs)) (least, is_best) = (
   is,
   rows,
@@ -71,13 +74,14 @@ fitting_standing k sheet value best false e (is, (rows, fitting, costs)) (least,
 )
 
 -- it is best where its certificate bounds as much
-pub shows_least : (k : SchedulingTask) (sheet : SheetData) (claim : Claim) (fit : Option Fit)
-    → IsSound k → HasFit k sheet fit → ShowsLeast k fit (bound_for k claim fit)
-shows_least k sheet claim (Some (Fits value)) sound (is, (rows, fitting, costs)) =
+own_least : (k : SchedulingTask) (sheet : SheetData) (claim : Claim) (own : Fit) → IsSound k
+    → IsJudged k sheet.answer.pieces own
+    → ShowsLeast k (Some (problem_fit own)) (bound_for k claim (Some (problem_fit own)))
+own_least k sheet claim (Fits value) sound (rows, fitting, costs) =
     least_under (bound_by claim k) refl
   where
     least_under : (found : Result ℤ BoundFault) → bound_by claim k ≡ found
-        → ShowsLeast k (Some (Fits value)) (Some found)
+        → ShowsLeast k (Some (fits.Fits (Some value))) (Some found)
     least_under (Ok bound) bounded = λ enough. (
       rows,
       record {
@@ -88,9 +92,15 @@ shows_least k sheet claim (Some (Fits value)) sound (is, (rows, fitting, costs))
       },
     )
     least_under (Err fault) bounded = tt
+own_least k sheet claim (NoSchedule fault) sound h = tt
+own_least k sheet claim (Misfit misfit) sound h = tt
+
+pub shows_least : (k : SchedulingTask) (sheet : SheetData) (claim : Claim) (fit : Option ProblemFit)
+    → IsSound k → HasFit k sheet fit → ShowsLeast k fit (bound_for k claim fit)
+shows_least k sheet claim (Some fit) sound (is, (own, same, judged)) =
+    subst (λ (f : ProblemFit). ShowsLeast k (Some f) (bound_for k claim (Some f))) (sym same)
+    (own_least k sheet claim own sound judged)
 shows_least k sheet claim None sound h = tt
-shows_least k sheet claim (Some (NoSchedule fault)) sound h = tt
-shows_least k sheet claim (Some (Misfit misfit)) sound h = tt
 
 -- ---- a schedule that does not
 
@@ -108,15 +118,22 @@ misfit_excludes k ps misfit rows (qs, kept, schedule, first, other) h =
     (All-permutation (IsOnMachine k.machines) ps qs kept h.draws.on_machines)
     (subst (FitsTask k) drawn h.fits) misfit first)
 
-pub standing_is : (k : SchedulingTask) (sheet : SheetData) (fit : Option Fit) (best : ℤ)
+own_standing : (k : SchedulingTask) (sheet : SheetData) (own : Fit) (best : ℤ) → IsFor k sheet
+    → IsJudged k sheet.answer.pieces own → IsLeastCost k best
+    → HasStanding k sheet (standing_of (Some (problem_fit own)) best)
+own_standing k sheet (Fits value) best is h least =
+    fitting_standing k sheet value best (int_le value best) refl (is, h) least
+own_standing k sheet (NoSchedule fault) best is h least = λ _ rows fitting.
+    fault_excludes sheet.answer.pieces fault fitting.pieces fitting.draws.none_twice h
+own_standing k sheet (Misfit misfit) best is h least = λ _ rows fitting.
+    misfit_excludes k sheet.answer.pieces misfit rows h fitting
+
+pub standing_is : (k : SchedulingTask) (sheet : SheetData) (fit : Option ProblemFit) (best : ℤ)
     → HasFit k sheet fit → IsLeastCost k best → HasStanding k sheet (standing_of fit best)
-standing_is k sheet (Some (Fits value)) best h least =
-    fitting_standing k sheet value best (int_le value best) refl h least
+standing_is k sheet (Some fit) best (is, (own, same, judged)) least =
+    subst (λ (f : ProblemFit). HasStanding k sheet (standing_of (Some f) best)) (sym same)
+    (own_standing k sheet own best is judged least)
 standing_is k sheet None best h least = λ is rows fitting. h is
-standing_is k sheet (Some (NoSchedule fault)) best h least = λ is rows fitting.
-    fault_excludes sheet.answer.pieces fault fitting.pieces fitting.draws.none_twice h.1
-standing_is k sheet (Some (Misfit misfit)) best h least = λ is rows fitting.
-    misfit_excludes k sheet.answer.pieces misfit rows h.1 fitting
 
 -- ---- the gap
 
@@ -132,9 +149,9 @@ best_only : (b : Bool) → cond b Best Beaten ≡ Best → b ≡ true
 best_only true e = refl
 best_only false e = cc
 
-pub gap_is : (k : SchedulingTask) (sheet : SheetData) (fit : Option Fit) (best : ℤ)
-    → HasFit k sheet fit → IsLeastCost k best → HasGap fit best
-gap_is k sheet (Some (Fits value)) best (is, (rows, fitting, costs)) (least, is_best) =
+own_gap : (k : SchedulingTask) (sheet : SheetData) (own : Fit) (best : ℤ)
+    → IsJudged k sheet.answer.pieces own → IsLeastCost k best → HasGap (Some (problem_fit own)) best
+own_gap k sheet (Fits value) best (rows, fitting, costs) (least, is_best) =
     let above : best ≤ℤ value =
     omega (arith, ints, costs, is_best.least rows fitting.fits) in (
       λ none.
@@ -147,9 +164,15 @@ gap_is k sheet (Some (Fits value)) best (is, (rows, fitting, costs)) (least, is_
           let apart : value -ℤ best ≡ pos 0 = omega (arith, ints, above, below) in
           ap unsigned_abs apart,
     )
+own_gap k sheet (NoSchedule fault) best h least = tt
+own_gap k sheet (Misfit misfit) best h least = tt
+
+pub gap_is : (k : SchedulingTask) (sheet : SheetData) (fit : Option ProblemFit) (best : ℤ)
+    → HasFit k sheet fit → IsLeastCost k best → HasGap fit best
+gap_is k sheet (Some fit) best (is, (own, same, judged)) least =
+    subst (λ (f : ProblemFit). HasGap (Some f) best) (sym same)
+    (own_gap k sheet own best judged least)
 gap_is k sheet None best h least = tt
-gap_is k sheet (Some (NoSchedule fault)) best h least = tt
-gap_is k sheet (Some (Misfit misfit)) best h least = tt
 
 -- ---- the optimum
 

@@ -6,10 +6,10 @@ use Rattle.std.specs.Fmt.{decimal, signed_decimal}
 use Rattle.tf_notation.specs.Canonical.{canonical}
 use Rattle.tf_text.specs.AnswerText.{line_text}
 use Rattle.tf_text.proofs.Written.{then, joined}
-use Rattle.tf_evaluate.specs.EvaluationData.{EvaluationData}
+use Rattle.tf_evaluate.specs.EvaluationData.{EvaluationData, value_in}
 use Rattle.tf_evaluate.specs.declared.step.Terms.{Terms}
 use Rattle.tf_evaluate.specs.declared.step.Step.{Step}
-use Rattle.tf_evaluate.specs.EvaluationText.{fit_words, claimed_lines, value_lines, gap_lines, bound_lines, outcome_words, judgement_lines, terms_words, step_words, evaluation_text}
+use Rattle.tf_evaluate.specs.EvaluationText.{fit_words, claimed_lines, number_lines, gap_lines, bound_lines, outcome_words, judgement_lines, terms_words, step_words, evaluation_text}
 
 -- words, each behind a blank, and then others
 pub words_then : (t0 t1 t2 : List ℕ) (first others : List (List ℕ))
@@ -39,25 +39,25 @@ lines_then t0 t1 t2 first others e1 e2 =
 pub judgement_written : (e : EvaluationData) (t0 t1 t2 t3 t4 t5 t6 : List ℕ)
     → t1 ≡ t0 ++ line_text (fit_words e.fit)
     → t2 ≡ t1 ++ flat_map line_text (claimed_lines e.claimed)
-    → t3 ≡ t2 ++ flat_map line_text (value_lines e.fit)
+    → t3 ≡ t2 ++ flat_map line_text (number_lines (codes "value") (value_in e.fit))
     → t4 ≡ t3 ++ line_text (codes "best" ∷ signed_decimal e.best ∷ [])
-    → t5 ≡ t4 ++ flat_map line_text (gap_lines e.fit e.best)
+    → t5 ≡ t4 ++ flat_map line_text (gap_lines (value_in e.fit) e.best)
     → t6 ≡ t5 ++ flat_map line_text (bound_lines e.bound)
     → t6 ≡ t0 ++ flat_map line_text (judgement_lines e)
 judgement_written e t0 t1 t2 t3 t4 t5 t6 e1 e2 e3 e4 e5 e6 =
-    let from4 : t6 ≡ t4 ++ flat_map line_text (gap_lines e.fit e.best ++ bound_lines e.bound) =
-    lines_then t4 t5 t6 (gap_lines e.fit e.best) (bound_lines e.bound) e5 e6 in
+    let from4 : t6 ≡ t4 ++ flat_map line_text (gap_lines (value_in e.fit) e.best ++ bound_lines e.bound) =
+    lines_then t4 t5 t6 (gap_lines (value_in e.fit) e.best) (bound_lines e.bound) e5 e6 in
     let from3 : t6 ≡ t3
     ++ flat_map line_text
     ((codes "best" ∷ signed_decimal e.best ∷ [])
-    ∷ (gap_lines e.fit e.best ++ bound_lines e.bound)) = then t3 t4 t6 _ _ e4 from4 in
-    let from2 = lines_then t2 t3 t6 (value_lines e.fit)
+    ∷ (gap_lines (value_in e.fit) e.best ++ bound_lines e.bound)) = then t3 t4 t6 _ _ e4 from4 in
+    let from2 = lines_then t2 t3 t6 (number_lines (codes "value") (value_in e.fit))
     ((codes "best" ∷ signed_decimal e.best ∷ [])
-    ∷ (gap_lines e.fit e.best ++ bound_lines e.bound)) e3 from3 in
+    ∷ (gap_lines (value_in e.fit) e.best ++ bound_lines e.bound)) e3 from3 in
     let from1 = lines_then t1 t2 t6 (claimed_lines e.claimed)
-    (value_lines e.fit
+    (number_lines (codes "value") (value_in e.fit)
     ++ (codes "best" ∷ signed_decimal e.best ∷ [])
-    ∷ (gap_lines e.fit e.best ++ bound_lines e.bound)) e2 from2 in
+    ∷ (gap_lines (value_in e.fit) e.best ++ bound_lines e.bound)) e2 from2 in
     then t0 t1 t6 _ _ e1 from1
 
 -- the lines from the judgement on

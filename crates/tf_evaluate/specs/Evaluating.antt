@@ -14,14 +14,15 @@ use Rattle.tf_check.specs.declared.fault.BoundFault.{BoundFault}
 use Rattle.tf_text.specs.AnswerText.{SheetData}
 use Rattle.tf_engine.specs.Checking.{IsFor}
 use Rattle.tf_check.specs.declared.judgement.Fit.{Fit}
-use Rattle.tf_check.specs.declared.judgement.Fit.TheVariants.{Fits, NoSchedule}
+use Rattle.tf_evaluate.specs.declared.evaluation.ProblemFit.{ProblemFit}
+use Rattle.tf_evaluate.specs.declared.evaluation.ProblemFit.TheVariants.{Fits, NoSchedule}
 use Rattle.tf_evaluate.specs.declared.evaluation.JobOutcome.{JobOutcome}
 use Rattle.tf_evaluate.specs.declared.evaluation.Standing.{Standing}
-use Rattle.tf_evaluate.specs.declared.evaluation.Standing.TheVariants.{Best, Beaten, Unfit}
+use Rattle.tf_evaluate.specs.declared.evaluation.Standing.TheVariants.{Best, Beaten, Unproved, Unfit}
 use Rattle.tf_evaluate.specs.declared.evaluation.Detail.{Detail}
 use Rattle.tf_evaluate.specs.declared.evaluation.Detail.TheVariants.{WithArithmetic}
 use Rattle.tf_evaluate.specs.declared.step.Step.{Step}
-use Rattle.tf_evaluate.specs.EvaluationData.{EvaluationData, standing_of, gap}
+use Rattle.tf_evaluate.specs.EvaluationData.{EvaluationData, problem_fit, standing_of, gap}
 use Rattle.tf_evaluate.specs.Outcomes.{outcome_of}
 use Rattle.tf_evaluate.specs.Arithmetic.{arithmetic, last_result}
 
@@ -30,14 +31,18 @@ abbrev pub IsLeastCost : SchedulingTask → ℤ → Type 0
 IsLeastCost k best = (rows : Timetable) × IsBest k rows best
 
 -- where a schedule costs no more than its certificate bounds, none that fits costs less
-abbrev pub ShowsLeast : SchedulingTask → Option Fit → Option (Result ℤ BoundFault) → Type 0
-ShowsLeast k (Some (Fits value)) (Some (Ok bound)) = value ≤ℤ bound → IsLeastCost k value
+abbrev pub ShowsLeast : SchedulingTask → Option ProblemFit → Option (Result ℤ BoundFault) → Type 0
+ShowsLeast k (Some (Fits (Some value))) (Some (Ok bound)) = value ≤ℤ bound → IsLeastCost k value
 ShowsLeast k _ _ = Unit {0}
 
+-- how pieces stand to the task, told as of any problem
+abbrev pub IsJudgedAs : SchedulingTask → List Piece → ProblemFit → Type 0
+IsJudgedAs k ps fit = (own : Fit) × (fit ≡ problem_fit own) × IsJudged k ps own
+
 -- how the pieces of a sheet stand to the task, which may be another one
-abbrev pub HasFit : SchedulingTask → SheetData → Option Fit → Type 0
+abbrev pub HasFit : SchedulingTask → SheetData → Option ProblemFit → Type 0
 HasFit k sheet None = ¬ (IsFor k sheet)
-HasFit k sheet (Some fit) = IsFor k sheet × IsJudged k sheet.answer.pieces fit
+HasFit k sheet (Some fit) = IsFor k sheet × IsJudgedAs k sheet.answer.pieces fit
 
 -- what the schedule comes to: none that fits costs less, or this other timetable does
 abbrev pub HasStanding : SchedulingTask → SheetData → Standing → Type 0
@@ -46,11 +51,12 @@ HasStanding k sheet Best = IsFor k sheet × (rows : Timetable)
 HasStanding k sheet Beaten = IsFor k sheet × (rows : Timetable)
     × DrawsFitting k sheet.answer.pieces rows
     × (other : Timetable) × FitsTask k other × (cost k other <ℤ cost k rows)
-HasStanding k sheet Unfit = IsFor k sheet → (rows : Timetable)
+HasStanding k sheet Unproved = ⊥
+HasStanding k sheet (Unfit why) = IsFor k sheet → (rows : Timetable)
     → ¬ (DrawsFitting k sheet.answer.pieces rows)
 
 -- what the certificate bounds, or its first fault
-abbrev pub bound_for : SchedulingTask → Claim → Option Fit → Option (Result ℤ BoundFault)
+abbrev pub bound_for : SchedulingTask → Claim → Option ProblemFit → Option (Result ℤ BoundFault)
 bound_for k claim None = None
 bound_for k claim _ = Some (bound_by claim k)
 
@@ -80,14 +86,15 @@ pub record IsOptimum (detail : Detail) (k : SchedulingTask) (best : ℤ) (steps 
     pub ends : EndsInBound detail (Some (Ok best)) steps
 
 -- what happens to the jobs from 1 on, where the pieces make a schedule
-abbrev pub outcomes_for : SchedulingTask → List Piece → Option Fit → List JobOutcome
+abbrev pub outcomes_for : SchedulingTask → List Piece → Option ProblemFit → List JobOutcome
 outcomes_for k ps None = []
 outcomes_for k ps (Some (NoSchedule fault)) = []
 outcomes_for k ps _ = map (outcome_of k ps) (all_jobs k)
 
 -- the gap is 0 exactly where the schedule is best
-abbrev pub HasGap : Option Fit → ℤ → Type 0
-HasGap (Some (Fits value)) best = (gap value best ≡ 0) ↔ (standing_of (Some (Fits value)) best ≡ Best)
+abbrev pub HasGap : Option ProblemFit → ℤ → Type 0
+HasGap (Some (Fits (Some value))) best =
+    (gap value best ≡ 0) ↔ (standing_of (Some (Fits (Some value))) best ≡ Best)
 HasGap _ best = Unit {0}
 
 pub record IsEvaluation (detail : Detail) (problem : Problem) (k : SchedulingTask)

@@ -1,11 +1,15 @@
 -- What an evaluation says, whatever memory holds it.
-use Rattle.std.specs.Prelude.{ℕ, ℤ, ◌-ℤ◌, unsigned_abs, int_le, List, Option, Some, Result, if◌then◌else◌}
+use Rattle.std.specs.Prelude.{ℕ, ℤ, ◌-ℤ◌, unsigned_abs, int_le, List, Option, None, Some, Result, if◌then◌else◌}
 use Rattle.tf_model.specs.declared.problem.Problem.{Problem}
+use Rattle.tf_schedule.specs.declared.misfit.ProblemMisfit.TheVariants.{Plain}
 use Rattle.tf_check.specs.declared.fault.BoundFault.{BoundFault}
 use Rattle.tf_check.specs.declared.judgement.Fit.{Fit}
-use Rattle.tf_check.specs.declared.judgement.Fit.TheVariants.{Fits}
+use Rattle.tf_check.specs.declared.judgement.Fit.TheVariants as classes
+use Rattle.tf_evaluate.specs.declared.evaluation.ProblemFit.{ProblemFit}
+use Rattle.tf_evaluate.specs.declared.evaluation.ProblemFit.TheVariants.{Fits, NoSchedule, Misfit}
 use Rattle.tf_evaluate.specs.declared.evaluation.Standing.{Standing}
-use Rattle.tf_evaluate.specs.declared.evaluation.Standing.TheVariants.{Best, Beaten, Unfit}
+use Rattle.tf_evaluate.specs.declared.evaluation.Standing.TheVariants.{Best, Beaten, Unproved, Unfit}
+use Rattle.tf_evaluate.specs.declared.evaluation.WhyUnfit.TheVariants as reasons
 use Rattle.tf_evaluate.specs.declared.evaluation.JobOutcome.{JobOutcome}
 use Rattle.tf_evaluate.specs.declared.step.Step.{Step}
 
@@ -13,7 +17,7 @@ pub record EvaluationData : Type 0 where
   pub problem : Problem
   pub jobs : ℕ
   pub machines : ℕ
-  pub fit : Option Fit
+  pub fit : Option ProblemFit
   pub claimed : Option ℤ
   pub best : ℤ
   pub bound : Option (Result ℤ BoundFault)
@@ -24,7 +28,22 @@ pub record EvaluationData : Type 0 where
 abbrev pub gap : ℤ → ℤ → ℕ
 gap value best = unsigned_abs (value -ℤ best)
 
--- a schedule that fits is best where it costs no more than the least cost
-abbrev pub standing_of : Option Fit → ℤ → Standing
-standing_of (Some (Fits value)) best = if int_le value best then Best else Beaten
-standing_of _ best = Unfit
+-- how pieces that stand so to a task of a class stand to it as one of any problem
+abbrev pub problem_fit : Fit → ProblemFit
+problem_fit (classes.Fits value) = Fits (Some value)
+problem_fit (classes.NoSchedule fault) = NoSchedule fault
+problem_fit (classes.Misfit misfit) = Misfit (Plain misfit)
+
+-- what the schedule costs, if it fits
+abbrev pub value_in : Option ProblemFit → Option ℤ
+value_in (Some (Fits value)) = value
+value_in _ = None
+
+-- a schedule that fits is best where it costs no more than the least cost; of another one, why it
+-- does not fit
+abbrev pub standing_of : Option ProblemFit → ℤ → Standing
+standing_of (Some (Fits (Some value))) best = if int_le value best then Best else Beaten
+standing_of (Some (Fits None)) best = Unproved
+standing_of (Some (NoSchedule fault)) best = Unfit (reasons.NoSchedule fault)
+standing_of (Some (Misfit misfit)) best = Unfit (reasons.Misfit misfit)
+standing_of None best = Unfit reasons.OtherTask

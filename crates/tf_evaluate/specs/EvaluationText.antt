@@ -6,35 +6,43 @@ use Rattle.tf_notation.specs.Canonical.{canonical}
 use Rattle.tf_check.specs.declared.fault.BoundFault.{BoundFault}
 use Rattle.tf_text.specs.AnswerText.{line_text}
 use Rattle.tf_engine.specs.VerdictLine.{piece_fault_words, misfit_words, bound_fault_words}
-use Rattle.tf_check.specs.declared.judgement.Fit.{Fit}
-use Rattle.tf_check.specs.declared.judgement.Fit.TheVariants.{Fits, NoSchedule, Misfit}
+use Rattle.tf_schedule.specs.declared.misfit.ProblemMisfit.{ProblemMisfit}
+use Rattle.tf_schedule.specs.declared.misfit.ProblemMisfit.TheVariants.{Plain, OffRoute, NoOneOrder, Waits}
+use Rattle.tf_evaluate.specs.declared.evaluation.ProblemFit.{ProblemFit}
+use Rattle.tf_evaluate.specs.declared.evaluation.ProblemFit.TheVariants.{Fits, NoSchedule, Misfit}
 use Rattle.tf_evaluate.specs.declared.evaluation.JobOutcome.{JobOutcome}
 use Rattle.tf_evaluate.specs.declared.step.Terms.{Terms}
 use Rattle.tf_evaluate.specs.declared.step.Terms.TheVariants.{Load, JobTime, ShopTimes, MachineWork, Smith, SetWork, LeastCost, Window, Split, GreatestFactor, Ranks}
 use Rattle.tf_evaluate.specs.declared.step.Step.{Step}
-use Rattle.tf_evaluate.specs.EvaluationData.{EvaluationData, gap}
+use Rattle.tf_evaluate.specs.EvaluationData.{EvaluationData, gap, value_in}
+
+-- a misfit by its name and its arguments
+abbrev pub problem_misfit_words : ProblemMisfit → List (List ℕ)
+problem_misfit_words (Plain misfit) = misfit_words misfit
+problem_misfit_words (OffRoute job) = codes "OffRoute" ∷ decimal job ∷ []
+problem_misfit_words NoOneOrder = codes "NoOneOrder" ∷ []
+problem_misfit_words (Waits job) = codes "Waits" ∷ decimal job ∷ []
 
 -- `fits`, or `misfit` and why
-abbrev pub fit_words : Option Fit → List (List ℕ)
-fit_words (Some (Fits value)) = codes "fits" ∷ []
+abbrev pub fit_words : Option ProblemFit → List (List ℕ)
 fit_words None = codes "misfit" ∷ codes "OtherTask" ∷ []
+fit_words (Some (Fits value)) = codes "fits" ∷ []
 fit_words (Some (NoSchedule fault)) = codes "misfit" ∷ piece_fault_words fault
-fit_words (Some (Misfit misfit)) = codes "misfit" ∷ misfit_words misfit
+fit_words (Some (Misfit misfit)) = codes "misfit" ∷ problem_misfit_words misfit
+
+-- a line of a number that may be missing
+abbrev pub number_lines : List ℕ → Option ℤ → List (List (List ℕ))
+number_lines name None = []
+number_lines name (Some number) = (name ∷ signed_decimal number ∷ []) ∷ []
 
 -- what is claimed, where something is
 abbrev pub claimed_lines : Option ℤ → List (List (List ℕ))
-claimed_lines None = []
-claimed_lines (Some claimed) = (codes "claimed" ∷ signed_decimal claimed ∷ []) ∷ []
+claimed_lines = number_lines (codes "claimed")
 
--- what a schedule that fits costs
-abbrev pub value_lines : Option Fit → List (List (List ℕ))
-value_lines (Some (Fits value)) = (codes "value" ∷ signed_decimal value ∷ []) ∷ []
-value_lines _ = []
-
--- by how much it costs more than the least cost
-abbrev pub gap_lines : Option Fit → ℤ → List (List (List ℕ))
-gap_lines (Some (Fits value)) best = (codes "gap" ∷ decimal (gap value best) ∷ []) ∷ []
-gap_lines _ best = []
+-- by how much a cost is above the least one, or a lower bound of it
+abbrev pub gap_lines : Option ℤ → ℤ → List (List (List ℕ))
+gap_lines (Some value) least = (codes "gap" ∷ decimal (gap value least) ∷ []) ∷ []
+gap_lines None least = []
 
 -- what the certificate bounds, or its first fault
 abbrev pub bound_words : Result ℤ BoundFault → List (List ℕ)
@@ -93,9 +101,9 @@ abbrev pub judgement_lines : EvaluationData → List (List (List ℕ))
 judgement_lines e =
     fit_words e.fit
     ∷ (claimed_lines e.claimed
-    ++ (value_lines e.fit
+    ++ (number_lines (codes "value") (value_in e.fit)
     ++ (codes "best" ∷ signed_decimal e.best ∷ [])
-    ∷ (gap_lines e.fit e.best ++ bound_lines e.bound)))
+    ∷ (gap_lines (value_in e.fit) e.best ++ bound_lines e.bound)))
 
 -- all lines: a heading, what is asked, the judgement, the certificate's arithmetic, and the jobs
 abbrev pub evaluation_lines : EvaluationData → List (List (List ℕ))

@@ -3,25 +3,24 @@ ghost use Rattle.std.specs.Prelude.{◌≡◌, ◌↔◌, IsTrue, IfOk, IfErr, S
 ghost use Rattle.tf_model.specs.Sound.{IsSound};
 ghost use Rattle.tf_check.specs.Bound.{bound_by};
 ghost use Rattle.tf_check.specs.Certificate.{claim_of};
-ghost use Rattle.tf_check.specs.Judgement.{IsJudged};
 ghost use Rattle.tf_text.specs.AnswerText.{SheetData};
 ghost use Rattle.tf_engine.specs.Checking.{IsFor};
 ghost use Rattle.tf_engine.specs.Solvers.{IsNotSolved};
 ghost use Rattle.tf_evaluate.specs.Evaluating.{EndsInBound, IsBoundOf, IsEvaluation, IsLeastCost};
 ghost use Rattle.tf_evaluate.specs.Evaluating.{HasFit, HasStanding, HasGap, ShowsLeast, bound_for};
-ghost use Rattle.tf_evaluate.specs.Evaluating.{IsOptimum};
+ghost use Rattle.tf_evaluate.specs.Evaluating.{IsJudgedAs, IsOptimum};
 ghost use Rattle.tf_evaluate.specs.Evaluating.{outcomes_for, steps_for};
 ghost use Rattle.tf_evaluate.specs.EvaluationData.{standing_of};
 
 use crate::arithmetic::arithmetic;
-use crate::evaluation::{Detail, Evaluation, JobOutcome};
+use crate::evaluation::{Detail, Evaluation, JobOutcome, ProblemFit, problem_fit};
 use crate::outcomes::outcomes;
 use crate::step::Step;
 use std::alloc::{Allocator, Global};
 use tf_check::answer::Answer;
 use tf_check::certificate::Certificate;
 use tf_check::fault::BoundFault;
-use tf_check::judgement::{Fit, Judgement, judge_answer};
+use tf_check::judgement::{Judgement, judge_answer};
 use tf_engine::run_check::is_for;
 use tf_engine::solve::{SolveFault, solve};
 use tf_model::memory::OutOfMemory;
@@ -77,14 +76,14 @@ pub fn evaluate<A: Allocator + Copy, B: Allocator, C: Allocator>(
 fn best_beside<A: Allocator + Copy, B: Allocator>(
     alloc: A,
     task: &Task<B>,
-    fit: &Option<Fit>,
+    fit: &Option<ProblemFit>,
     bound: &Option<Result<i128, BoundFault>>,
 ) -> Result<i64, SolveFault<A>>
     requires shown { ShowsLeast task.now fit.now bound.now }
     ensures least { IfOk result (IsLeastCost task.now) }
     ensures refused { IfErr result (IsNotSolved task.now) }
 {
-    if let Some(Fit::Fits(value)) = fit
+    if let Some(ProblemFit::Fits(Some(value))) = fit
         && let Some(Ok(bound)) = bound
         && value <= bound
         && let Ok(best) = i64::try_from(*value)
@@ -139,7 +138,7 @@ pub fn find_optimum<A: Allocator + Copy, B: Allocator>(
 // How an answer stands to a task, and what happens to the jobs.
 #[derive(Drop)]
 struct Judged<A: Allocator> {
-    fit: Option<Fit>,
+    fit: Option<ProblemFit>,
     bound: Option<Result<i128, BoundFault>>,
     outcomes: Vec<JobOutcome, A>,
 }
@@ -178,7 +177,7 @@ fn judge_sheet<A: Allocator + Copy, B: Allocator, C: Allocator, D: Allocator>(
 /// How pieces stand to a task, and what happens to the jobs.
 #[derive(Drop)]
 pub struct JudgedPieces<A: Allocator> {
-    pub fit: Fit,
+    pub fit: ProblemFit,
     /// What the certificate bounds, or its first fault.
     pub bound: Result<i128, BoundFault>,
     /// The jobs from 1 on, where the pieces make a schedule.
@@ -193,7 +192,7 @@ pub fn judge_pieces<A: Allocator + Copy, B: Allocator, C: Allocator, D: Allocato
     pieces: Vec<Piece, C>,
     certificate: &Certificate<D>,
 ) -> Result<JudgedPieces<A>, OutOfMemory>
-    ensures fit { IfOk result (λ judged. IsJudged task.now pieces.items judged.fit) }
+    ensures fit { IfOk result (λ judged. IsJudgedAs task.now pieces.items judged.fit) }
     ensures bound { IfOk result
         (λ judged. judged.bound ≡ bound_by (claim_of certificate.now) task.now) }
     ensures outcomes { IfOk result
@@ -205,7 +204,7 @@ pub fn judge_pieces<A: Allocator + Copy, B: Allocator, C: Allocator, D: Allocato
         None => Vec::new(alloc),
     };
     Ok(JudgedPieces {
-        fit,
+        fit: problem_fit(fit),
         bound,
         outcomes,
     })

@@ -1,4 +1,7 @@
 //! What an evaluation says.
+ghost use Rattle.std.specs.Prelude.{◌≡◌};
+ghost use Rattle.tf_evaluate.specs.EvaluationData.{problem_fit, value_in};
+
 use crate::step::Step;
 use std::alloc::{Allocator, Global};
 use std::marker::Model;
@@ -6,6 +9,8 @@ use tf_check::fault::BoundFault;
 use tf_check::judgement::Fit;
 use tf_model::ids::JobId;
 use tf_model::problem::Problem;
+use tf_schedule::misfit::ProblemMisfit;
+use tf_schedule::schedule::PieceFault;
 
 /// How much is reported of an answer.
 #[derive(Clone, Copy, Debug, Drop, PartialEq, Eq)]
@@ -16,6 +21,50 @@ pub enum Detail {
     WithArithmetic,
 }
 
+/// How the pieces of an answer stand to its task, as one of any problem.
+#[derive(Debug, Drop, PartialEq, Eq)]
+pub enum ProblemFit {
+    /// They draw a timetable that fits, and this is what it costs: none where that is 2^127 or
+    /// more.
+    Fits(Option<i128>),
+    /// They make no schedule.
+    NoSchedule(PieceFault),
+    /// The schedule does not fit.
+    Misfit(ProblemMisfit),
+}
+
+/// The same of pieces that stand so to a task of a class.
+pub fn problem_fit(fit: Fit) -> ProblemFit
+    ensures { result ≡ problem_fit fit }
+{
+    match fit {
+        Fit::Fits(value) => ProblemFit::Fits(Some(value)),
+        Fit::NoSchedule(fault) => ProblemFit::NoSchedule(fault),
+        Fit::Misfit(misfit) => ProblemFit::Misfit(ProblemMisfit::Plain(misfit)),
+    }
+}
+
+/// What a schedule costs, if it fits.
+pub fn value_in(fit: &Option<ProblemFit>) -> Option<i128>
+    ensures { result ≡ value_in fit.now }
+{
+    match fit {
+        Some(ProblemFit::Fits(value)) => *value,
+        _ => None,
+    }
+}
+
+/// Why a schedule does not fit.
+#[derive(Clone, Copy, Debug, Drop, PartialEq, Eq)]
+pub enum WhyUnfit {
+    /// It is for another task.
+    OtherTask,
+    /// The pieces make no schedule.
+    NoSchedule(PieceFault),
+    /// The first thing in which the schedule does not fit the task.
+    Misfit(ProblemMisfit),
+}
+
 /// What a schedule comes to.
 #[derive(Clone, Copy, Debug, Drop, PartialEq, Eq)]
 pub enum Standing {
@@ -23,8 +72,11 @@ pub enum Standing {
     Best,
     /// It fits, and one that fits costs less.
     Beaten,
+    /// It fits, and whether one that fits costs less is not known: where no solver gives the least
+    /// cost.
+    Unproved,
     /// It does not fit.
-    Unfit,
+    Unfit(WhyUnfit),
 }
 
 /// What happens to a job.
@@ -49,7 +101,7 @@ pub struct Evaluation<A: Allocator = Global> {
     pub jobs: u32,
     pub machines: u32,
     /// How the pieces stand to the task; `None` for an answer to another task.
-    pub fit: Option<Fit>,
+    pub fit: Option<ProblemFit>,
     /// The value that the answer claims; `None` for a schedule of which nothing is claimed.
     pub claimed: Option<i64>,
     /// The least cost of a timetable that fits.
@@ -91,9 +143,14 @@ impl<A: Allocator> Evaluation<A> {
         ensures { result ≡ standing_of self.now.fit self.now.best }
     {
         match &self.fit {
-            Some(Fit::Fits(value)) if *value <= i128::from(self.best) => Standing::Best,
-            Some(Fit::Fits(_)) => Standing::Beaten,
-            _ => Standing::Unfit,
+            Some(ProblemFit::Fits(Some(value))) if *value <= i128::from(self.best) => {
+                Standing::Best
+            }
+            Some(ProblemFit::Fits(Some(_))) => Standing::Beaten,
+            Some(ProblemFit::Fits(None)) => Standing::Unproved,
+            Some(ProblemFit::NoSchedule(fault)) => Standing::Unfit(WhyUnfit::NoSchedule(*fault)),
+            Some(ProblemFit::Misfit(misfit)) => Standing::Unfit(WhyUnfit::Misfit(*misfit)),
+            None => Standing::Unfit(WhyUnfit::OtherTask),
         }
     }
 }

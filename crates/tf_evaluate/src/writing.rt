@@ -3,21 +3,22 @@ ghost use Rattle.std.specs.Prelude.{◌≡◌, [], ◌∷◌, ◌++◌, codes, m
 ghost use Rattle.std.specs.Fmt.{decimal};
 ghost use Rattle.std.specs.List.{flat_map, join_with_byte};
 ghost use Rattle.tf_text.specs.AnswerText.{line_text};
-ghost use Rattle.tf_evaluate.specs.EvaluationText.{fit_words, claimed_lines, value_lines};
-ghost use Rattle.tf_evaluate.specs.EvaluationText.{gap_lines, bound_words, bound_lines};
+ghost use Rattle.tf_evaluate.specs.EvaluationText.{fit_words, claimed_lines, number_lines};
+ghost use Rattle.tf_evaluate.specs.EvaluationText.{problem_misfit_words, gap_lines};
+ghost use Rattle.tf_evaluate.specs.EvaluationText.{bound_words, bound_lines};
 ghost use Rattle.tf_evaluate.specs.EvaluationText.{outcome_words, judgement_lines, step_words};
 ghost use Rattle.tf_evaluate.specs.EvaluationText.{terms_words, evaluation_text};
 
-use crate::evaluation::{Evaluation, JobOutcome};
+use crate::evaluation::{Evaluation, JobOutcome, ProblemFit, value_in};
 use crate::step::{Step, Terms};
 use itoa::Integer;
 use std::alloc::Allocator;
 use tf_check::fault::BoundFault;
-use tf_check::judgement::Fit;
 use tf_engine::verdict_line::{push_bound_fault, push_misfit, push_piece_fault};
 use tf_model::ids::JobId;
 use tf_model::memory::OutOfMemory;
 use tf_notation::writing::notation_text;
+use tf_schedule::misfit::ProblemMisfit;
 use tf_text::answer::writing::{push_number, push_number_line};
 
 /// The text of an evaluation, by lines and words, each line ended by a line feed.
@@ -50,32 +51,81 @@ fn push_judgement<A: Allocator, M: Allocator>(
 {
     push_fit(text, &evaluation.fit)?;
     push_claimed(text, evaluation.claimed)?;
-    push_value(text, &evaluation.fit)?;
+    let value = value_in(&evaluation.fit);
+    push_some(text, b"value", value)?;
     push_number_line(text, b"best", evaluation.best)?;
-    push_gap(text, &evaluation.fit, evaluation.best)?;
+    push_gap(text, value, i128::from(evaluation.best))?;
     push_bound(text, &evaluation.bound)?;
     Ok(())
 }
 
 /// Adds the line `fits`, or `misfit` and why.
-pub fn push_fit<A: Allocator>(text: &mut Vec<u8, A>, fit: &Option<Fit>) -> Result<(), OutOfMemory>
+pub fn push_fit<A: Allocator>(
+    text: &mut Vec<u8, A>,
+    fit: &Option<ProblemFit>,
+) -> Result<(), OutOfMemory>
     ensures { OnOk result (text.new.items ≡ text.old.items ++ line_text (fit_words fit.now)) }
 {
     match fit {
-        Some(Fit::Fits(_)) => text.extend_from_slice(b"fits\n")?,
+        Some(ProblemFit::Fits(_)) => text.extend_from_slice(b"fits\n")?,
         None => text.extend_from_slice(b"misfit OtherTask\n")?,
-        Some(Fit::NoSchedule(fault)) => {
+        Some(ProblemFit::NoSchedule(fault)) => {
             text.extend_from_slice(b"misfit ")?;
             push_piece_fault(text, fault)?;
             text.push(b'\n')?;
         }
-        Some(Fit::Misfit(misfit)) => {
+        Some(ProblemFit::Misfit(misfit)) => {
             text.extend_from_slice(b"misfit ")?;
-            push_misfit(text, misfit)?;
+            push_problem_misfit(text, misfit)?;
             text.push(b'\n')?;
         }
     }
     Ok(())
+}
+
+// A misfit by its name and its arguments.
+fn push_problem_misfit<A: Allocator>(
+    text: &mut Vec<u8, A>,
+    misfit: &ProblemMisfit,
+) -> Result<(), OutOfMemory>
+    ensures { OnOk result (text.new.items
+        ≡ text.old.items ++ join_with_byte 32 (problem_misfit_words misfit.now)) }
+{
+    match misfit {
+        ProblemMisfit::Plain(misfit) => push_misfit(text, misfit)?,
+        ProblemMisfit::OffRoute(job) => push_named(text, b"OffRoute", *job)?,
+        ProblemMisfit::NoOneOrder => text.extend_from_slice(b"NoOneOrder")?,
+        ProblemMisfit::Waits(job) => push_named(text, b"Waits", *job)?,
+    }
+    Ok(())
+}
+
+/// Adds a name and a job.
+pub fn push_named<A: Allocator>(
+    text: &mut Vec<u8, A>,
+    name: &[u8],
+    job: JobId,
+) -> Result<(), OutOfMemory>
+    ensures { OnOk result
+        (text.new.items ≡ text.old.items ++ join_with_byte 32 (name.now ∷ decimal job ∷ [])) }
+{
+    text.extend_from_slice(name)?;
+    push_number(text, job.get())
+}
+
+/// Adds a line of a number, where there is one.
+pub fn push_some<A: Allocator>(
+    text: &mut Vec<u8, A>,
+    name: &[u8],
+    number: Option<i128>,
+) -> Result<(), OutOfMemory>
+    ensures { OnOk result
+        (text.new.items ≡ text.old.items ++ flat_map line_text (number_lines name.now number)) }
+{
+    match number {
+        Some(number) => push_number_line(text, name, number),
+        None => Ok(()),
+    }
 }
 
 /// Adds the line of what is claimed, where something is.
@@ -92,27 +142,18 @@ pub fn push_claimed<A: Allocator>(
     }
 }
 
-fn push_value<A: Allocator>(text: &mut Vec<u8, A>, fit: &Option<Fit>) -> Result<(), OutOfMemory>
-    ensures { OnOk result
-        (text.new.items ≡ text.old.items ++ flat_map line_text (value_lines fit.now)) }
-{
-    match fit {
-        Some(Fit::Fits(value)) => push_number_line(text, b"value", *value),
-        _ => Ok(()),
-    }
-}
-
-fn push_gap<A: Allocator>(
+/// Adds the line of how far a cost is from the least one, or from a lower bound of it.
+pub fn push_gap<A: Allocator>(
     text: &mut Vec<u8, A>,
-    fit: &Option<Fit>,
-    best: i64,
+    value: Option<i128>,
+    least: i128,
 ) -> Result<(), OutOfMemory>
     ensures { OnOk result
-        (text.new.items ≡ text.old.items ++ flat_map line_text (gap_lines fit.now best)) }
+        (text.new.items ≡ text.old.items ++ flat_map line_text (gap_lines value least)) }
 {
-    match fit {
-        Some(Fit::Fits(value)) => push_number_line(text, b"gap", value.abs_diff(i128::from(best))),
-        _ => Ok(()),
+    match value {
+        Some(value) => push_number_line(text, b"gap", value.abs_diff(least)),
+        None => Ok(()),
     }
 }
 

@@ -1,10 +1,9 @@
 //! What may be said of a run that is over.
 use crate::answer::{explain_answer, explain_pieces};
 use crate::critical::explain_critical;
-use crate::instance::instance_in;
 use crate::refusal::{class_in, explain_refusal};
 use crate::text::explain_text;
-use crate::verdict::{Case, explain_fit, explain_unfit, explain_verdict};
+use crate::verdict::{Case, explain_unfit, explain_verdict};
 use crate::worked::explain_rule;
 use std::alloc::{AllocError, Global};
 use std::io;
@@ -14,11 +13,12 @@ use tf_advice::page::{Page, escape};
 use tf_advice::piece_lines::say_zero;
 use tf_advice::source::Source;
 use tf_advice::tardiness::explain_rest;
-use tf_advice::unused::explain_unused;
+use tf_advice::unused::{Said, explain_unused};
 use tf_bounding::instance_read::task_read;
 use tf_engine::fault::RunFault;
 use tf_engine::request::{Form, Request};
 use tf_engine::run_check::Checked;
+use tf_evaluate::evaluation::WhyUnfit;
 use tf_model::problem::{Env, Goal};
 use tf_notation::reading::read;
 use tf_read::fault::ReadFault;
@@ -66,13 +66,22 @@ fn say_unused(
         explain_rest(page, instance, jobs)?;
     }
     let problem = request.problem.as_str();
-    let read = instance_in(alloc, &request.form, instance);
-    match (class_in(problem), read) {
-        (Some(class), Some(instance)) => {
+    match class_in(problem) {
+        Some(class) => {
             let problem = escape(alloc, problem)?;
-            explain_unused(page, problem.as_str(), class, request.machines, &instance)
+            let said = said_by(&request.form, instance);
+            explain_unused(page, problem.as_str(), class, request.machines, &said)
         }
-        _ => Ok(()),
+        None => Ok(()),
+    }
+}
+
+// What an instance says that was read in this form.
+fn said_by(form: &Form, instance: &Source<'_>) -> Said {
+    match form {
+        Form::Table => Said::of_table(instance),
+        Form::Wt { jobs, .. } => Said::of_tardiness(*jobs as usize),
+        Form::Flow { .. } => Said::times_alone(),
     }
 }
 
@@ -231,13 +240,14 @@ pub fn checked(
     Ok(page.text)
 }
 
-/// Why an answer that was evaluated does not fit, if its text was kept.
+/// Why an answer or a schedule that was evaluated does not fit, if its text was kept.
 ///
 /// # Errors
 ///
 /// There was no memory.
 pub fn unfit(
     alloc: Global,
+    why: &WhyUnfit,
     request: &Request,
     instance: &Source<'_>,
     answer: Option<&Source<'_>>,
@@ -252,7 +262,7 @@ pub fn unfit(
                 instance: *instance,
                 answer: *answer,
             };
-            explain_unfit(&mut page, &case)?;
+            explain_unfit(&mut page, &case, why)?;
         }
     }
     Ok(page.text)
@@ -271,19 +281,22 @@ pub fn fit(
     answer: Option<&Source<'_>>,
     style: Style,
 ) -> Result<String, AllocError> {
-    let Some(answer) = answer else {
-        return Ok(String::new(alloc));
-    };
-    match read_answer(alloc, answer.text) {
-        Ok(sheet) => {
-            let pieces = sheet.into_answer().pieces.into_vec();
-            fit_pieces(alloc, request, instance, pieces, style)
+    match answer {
+        Some(answer) if may_have_working(request) => {
+            match read_answer(alloc, answer.text) {
+                Ok(sheet) => {
+                    let pieces = sheet.into_answer().pieces.into_vec();
+                    fit_pieces(alloc, request, instance, pieces, style)
+                }
+                Err(_) => Ok(String::new(alloc)),
+            }
         }
-        Err(_) => Ok(String::new(alloc)),
+        _ => Ok(String::new(alloc)),
     }
 }
 
-/// The same of the schedule of an order, or of a text with these pieces.
+/// The same of the schedule of an order, or of a text with these pieces, of a problem that
+/// [`may_have_working`].
 ///
 /// # Errors
 ///
@@ -296,9 +309,6 @@ pub fn fit_pieces(
     style: Style,
 ) -> Result<String, AllocError> {
     let mut page = Page::new(alloc);
-    if !may_have_working(request) {
-        return Ok(page.text);
-    }
     if let Ok(task) = task_read(alloc, request, &mut Counted::new(instance.text)) {
         explain_rule(&mut page, &task, style)?;
         explain_critical(&mut page, &task, pieces, style)?;
@@ -306,8 +316,8 @@ pub fn fit_pieces(
     Ok(page.text)
 }
 
-// Whether the operations of a job follow one another, or a rule may give the optimum.
-fn may_have_working(request: &Request) -> bool {
+/// Whether the operations of a job follow one another, or a rule may give the optimum.
+pub fn may_have_working(request: &Request) -> bool {
     match read(request.problem.as_str().as_bytes()) {
         Ok(problem) => {
             matches!(problem.env, Env::JobShop | Env::Flow)
@@ -317,32 +327,24 @@ fn may_have_working(request: &Request) -> bool {
     }
 }
 
-/// Why the schedule of an order does not fit, or that of a text with these pieces.
+/// Why the schedule of an order, of these pieces, does not fit.
 ///
 /// # Errors
 ///
 /// There was no memory.
-pub fn unfit_pieces(
+pub fn unfit_order(
     alloc: Global,
+    why: &WhyUnfit,
     request: &Request,
     instance: &Source<'_>,
-    pieces: Vec<Piece>,
-    schedule: Option<&Source<'_>>,
+    pieces: &[Piece],
 ) -> Result<String, AllocError> {
-    let mut page = Page::new(alloc);
-    let text = piece_lines(alloc, &pieces)?;
-    let of_order = Source {
+    let text = piece_lines(alloc, pieces)?;
+    let schedule = Source {
         name: "the schedule of the order",
         text: text.as_bytes(),
     };
-    let case = Case {
-        alloc,
-        request,
-        instance: *instance,
-        answer: *schedule.unwrap_or(&of_order),
-    };
-    explain_fit(&mut page, &case, pieces)?;
-    Ok(page.text)
+    unfit(alloc, why, request, instance, Some(&schedule))
 }
 
 // A line for each piece.

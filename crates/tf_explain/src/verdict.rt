@@ -6,18 +6,15 @@ use std::alloc::{AllocError, Global};
 use tf_advice::page::{Page, push_name};
 use tf_advice::piece_lines::{Pieces, quote_pieces, steps_of};
 use tf_advice::source::Source;
-use tf_assess::assess::judged;
-use tf_assess::assessment::ProblemFit;
 use tf_bound::task::ProblemTask;
 use tf_bounding::instance_read::task_read;
 use tf_check::answer::Answer;
-use tf_check::certificate::Certificate;
 use tf_check::fault::BoundFault;
 use tf_check::judgement::{Fit, Judgement, judge_answer};
-use tf_check::load::Load;
 use tf_check::verdict::Reason;
 use tf_engine::request::{Form, Request};
-use tf_engine::run_check::{Checked, is_for};
+use tf_engine::run_check::Checked;
+use tf_evaluate::evaluation::WhyUnfit;
 use tf_model::prepare::prepare;
 use tf_model::problem::Problem;
 use tf_model::task::Task;
@@ -26,7 +23,6 @@ use tf_notation::writing::notation_text;
 use tf_read::table_task::table_task;
 use tf_schedule::fit::Misfit;
 use tf_schedule::misfit::ProblemMisfit;
-use tf_schedule::piece::Piece;
 use tf_text::answer::reading::read_answer;
 use tf_text::answer::sheet::Sheet;
 use tf_text::counted::Counted;
@@ -85,17 +81,6 @@ impl Case<'_> {
         }
         let task = self.problem_task()?;
         Some((task.len(), task.machines()))
-    }
-
-    // Whether an answer is for the task, where that is known.
-    fn is_its(&self, sheet: &Sheet) -> Option<bool> {
-        if let Some(task) = self.task() {
-            return Some(is_for(&task, sheet));
-        }
-        let task = self.problem_task()?;
-        let is_same = without_count(sheet.problem) == without_count(task.problem());
-        let (jobs, machines) = (sheet.jobs as usize, sheet.machines);
-        Some(is_same && jobs == task.len() && machines == task.machines())
     }
 
     // The problem and the numbers of jobs and of machines that the answer is for.
@@ -160,14 +145,6 @@ impl Case<'_> {
     }
 }
 
-// The problem on any number of machines.
-fn without_count(problem: Problem) -> Problem {
-    Problem {
-        count: None,
-        ..problem
-    }
-}
-
 /// The value that an answer claims, and how it stands to the task.
 #[derive(Drop)]
 struct Judged {
@@ -196,41 +173,15 @@ pub(crate) fn explain_verdict(
 }
 
 /// Why the pieces of an answer do not fit, or which task the answer is for.
-pub(crate) fn explain_unfit(page: &mut Page, case: &Case<'_>) -> Result<(), AllocError> {
-    let Some(sheet) = case.sheet() else {
-        return Ok(());
-    };
-    if case.is_its(&sheet) == Some(false) {
-        return say_other_task(page, case);
-    }
-    explain_fit(page, case, sheet.into_answer().pieces.into_vec())
-}
-
-/// Why pieces do not fit, which are those that the answer's text says.
-pub(crate) fn explain_fit(
+pub(crate) fn explain_unfit(
     page: &mut Page,
     case: &Case<'_>,
-    pieces: Vec<Piece>,
+    why: &WhyUnfit,
 ) -> Result<(), AllocError> {
-    let alloc = case.alloc;
-    if let Some(task) = case.task() {
-        let load: Certificate = Certificate::Load(Load);
-        let Ok(judgement) = judge_answer(alloc, &task, pieces, &load) else {
-            return Ok(());
-        };
-        return match &judgement.fit {
-            Fit::NoSchedule(fault) => explain_pieces(page, &case.answer, fault),
-            Fit::Misfit(misfit) => say_misfit(page, case, misfit),
-            Fit::Fits(_) => Ok(()),
-        };
-    }
-    let Some(task) = case.problem_task() else {
-        return Ok(());
-    };
-    match judged(alloc, &task, pieces) {
-        Ok(ProblemFit::NoSchedule(fault)) => explain_pieces(page, &case.answer, &fault),
-        Ok(ProblemFit::Misfit(misfit)) => say_problem_misfit(page, case, &misfit),
-        _ => Ok(()),
+    match why {
+        WhyUnfit::OtherTask => say_other_task(page, case),
+        WhyUnfit::NoSchedule(fault) => explain_pieces(page, &case.answer, fault),
+        WhyUnfit::Misfit(misfit) => say_problem_misfit(page, case, misfit),
     }
 }
 

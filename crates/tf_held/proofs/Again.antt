@@ -35,8 +35,7 @@ use Rattle.tf_evaluate.specs.declared.evaluation.Detail.{Detail}
 use Rattle.tf_evaluate.specs.declared.evaluation.Standing.{Standing}
 use Rattle.tf_evaluate.specs.RunEvaluating.{evaluation_run}
 use Rattle.tf_assess.specs.RunAssessing.{assessment_run}
-use Rattle.tf_assess.specs.RunRating.{IsRatingOf, is_solved, rated}
-use Rattle.tf_assess.specs.declared.assessment.Assessed.{Assessed}
+use Rattle.tf_assess.specs.RunRating.{IsRatingOf, is_solved}
 use Rattle.tf_orders.specs.declared.measure.Measure.{Measure}
 use Rattle.tf_orders.specs.declared.measure.Measure.TheVariants as measures
 use Rattle.tf_orders.specs.declared.run_orders.OrderForm.{OrderForm}
@@ -216,10 +215,10 @@ module _ (problem : List ℕ) (machines : Option ℕ) (layout : Layout) (jobs : 
             written,
           )
 
-      assessing_again : {A : Type 0} (assessed : Assessed)
-          → IsOutcome {A = A} (assessment_run A None (asked (InWt jobs m)) reader other) writer (Ok assessed)
-          → IsOutcome {A = A} (assessment_run A None (asked (InWt jobs k)) in_file other) writer (Ok assessed)
-      assessing_again assessed r =
+      assessing_again : {A : Type 0} (standing : Standing)
+          → IsOutcome {A = A} (assessment_run A None (asked (InWt jobs m)) reader other) writer (Ok standing)
+          → IsOutcome {A = A} (assessment_run A None (asked (InWt jobs k)) in_file other) writer (Ok standing)
+      assessing_again standing r =
           let (it, a, same) = r.outcome.1 in
           said_again r (file, r.texts.1) (refl, r.are_all.1) (
             it,
@@ -241,17 +240,8 @@ module _ (problem : List ℕ) (machines : Option ℕ) (layout : Layout) (jobs : 
           → IsRatingOf {A = A} detail (asked (InWt jobs k)) in_file other writer (Ok standing)
       rating_again {A = A} detail standing r = record {
         solved = λ is. evaluating_again detail standing (r.solved is);
-        unsolved = λ is. let u = r.unsolved is in by u.0 u.1 u.2;
+        unsolved = λ is. assessing_again standing (r.unsolved is);
       }
-        where
-          by : (run : Result Assessed (RunFault A))
-              → IsOutcome (assessment_run A None (asked (InWt jobs m)) reader other) writer run
-              → Ok standing ≡ rated run
-              → (run : Result Assessed (RunFault A))
-              × IsOutcome (assessment_run A None (asked (InWt jobs k)) in_file other) writer run
-              × (Ok standing ≡ rated run)
-          by (Ok assessed) is same = (Ok assessed, assessing_again assessed is, same)
-          by (Err fault) is same = cc
 
       measure_again : {A : Type 0} (detail : Detail) (by : Measure A)
           → IsMeasure detail None (asked (InWt jobs m)) own by
@@ -307,15 +297,6 @@ module _ (problem : List ℕ) (machines : Option ℕ) (layout : Layout) (jobs : 
         → (i : InstanceData) × (weighted_tardiness jobs k text ≡ Ok i)
     rating_has {A = A} detail standing r = by (is_solved problem) refl
       where
-        assessed : (run : Result Assessed (RunFault A))
-            → IsOutcome (assessment_run A None (asked (InWt jobs k)) reader other) writer run
-            → Ok standing ≡ rated run → (i : InstanceData) × (weighted_tardiness jobs k text ≡ Ok i)
-        assessed (Ok found) is same =
-            let a = is.outcome.1.1 in
-            problem_has k text a.task
-            (ap (problem_task_for (asked (InWt jobs k))) (sym (all_is is.texts.0 is.are_all.0)) ∙ a.meant)
-        assessed (Err fault) is same = cc
-
         by : (b : Bool) → is_solved problem ≡ b
             → (i : InstanceData) × (weighted_tardiness jobs k text ≡ Ok i)
         by true e =
@@ -323,7 +304,11 @@ module _ (problem : List ℕ) (machines : Option ℕ) (layout : Layout) (jobs : 
             let it = is.outcome.1.1 in
             task_has k text it.task
             (ap (task_for (asked (InWt jobs k))) (sym (all_is is.texts.0 is.are_all.0)) ∙ it.meant)
-        by false e = let u = r.unsolved e in assessed u.0 u.1 u.2
+        by false e =
+            let is = r.unsolved e in
+            let a = is.outcome.1.1 in
+            problem_has k text a.task
+            (ap (problem_task_for (asked (InWt jobs k))) (sym (all_is is.texts.0 is.are_all.0)) ∙ a.meant)
 
     orders_has : {A : Type 0} (form : OrderForm) (told : OrdersRated)
         → IsOutcome {A = A} (orders_run A form None (asked (InWt jobs k)) None reader other) writer (Ok told)

@@ -6,26 +6,21 @@ use Rattle.tf_words.specs.Words.{KeptLine, lines, kept_lines}
 use Rattle.tf_model.specs.declared.problem.Problem.{Problem}
 use Rattle.tf_model.specs.SchedulingTask.{SchedulingTask}
 use Rattle.tf_schedule.specs.declared.piece.Piece.{Piece}
-use Rattle.tf_check.specs.Judgement.{IsJudged}
-use Rattle.tf_check.specs.declared.judgement.Fit.{Fit}
-use Rattle.tf_check.specs.declared.judgement.Fit.TheVariants.{Fits}
 use Rattle.tf_posed.specs.ProblemData.{ProblemData}
 use Rattle.tf_text.specs.AnswerText.{line_text}
 use Rattle.tf_text.specs.declared.answer.fault.AnswerFault.{AnswerFault}
 use Rattle.tf_text.specs.declared.answer.fault.AnswerFault.TheVariants as answers
 use Rattle.tf_evaluate.specs.declared.evaluation.Standing.{Standing}
-use Rattle.tf_evaluate.specs.EvaluationData.{EvaluationData, gap, standing_of}
-use Rattle.tf_evaluate.specs.Evaluating.{outcomes_for}
+use Rattle.tf_evaluate.specs.EvaluationData.{EvaluationData, standing_of}
+use Rattle.tf_evaluate.specs.Evaluating.{IsJudgedAs, outcomes_for}
 use Rattle.tf_evaluate.specs.EvaluationText.{fit_words, evaluation_text}
 use Rattle.tf_evaluate.specs.declared.step.Step.{Step}
 use Rattle.tf_assess.specs.declared.assessment.Assessment.{Assessment}
 use Rattle.tf_assess.specs.declared.offered.Weighed.{Weighed}
-use Rattle.tf_assess.specs.declared.assessment.ProblemFit.{ProblemFit}
-use Rattle.tf_assess.specs.declared.assessment.ProblemFit.TheVariants as fits
+use Rattle.tf_evaluate.specs.declared.evaluation.ProblemFit.{ProblemFit}
+use Rattle.tf_evaluate.specs.declared.evaluation.ProblemFit.TheVariants.{Fits}
 use Rattle.tf_assess.specs.Assessing.{IsProblemJudged, assessed_of, problem_outcomes}
-use Rattle.tf_assess.specs.AssessmentText as assessments
 use Rattle.tf_assess.specs.AssessmentText.{assessment_text}
-use Rattle.tf_assess.specs.RunRating.{standing_as}
 use Rattle.tf_assess.specs.Measures.{AreMeasuredBy, measured_text, measured_words, value_word}
 use Rattle.tf_assess.specs.declared.measures.Measures.{Measures}
 use Rattle.tf_orders.specs.declared.measure.Measure.{Measure}
@@ -46,8 +41,8 @@ use Rattle.tf_orders.specs.Ruled.{IsRuled}
 -- claimed or bounded beside them
 pub record IsScheduleEvaluation (problem : Problem) (k : SchedulingTask) (best : ℤ)
     (steps : List Step) (ps : List Piece) (e : EvaluationData) : Type 0 where
-  pub fit : Fit
-  pub judged : IsJudged k ps fit
+  pub fit : ProblemFit
+  pub judged : IsJudgedAs k ps fit
   pub is : e ≡ record {
     problem = problem;
     jobs = length k.jobs;
@@ -82,7 +77,7 @@ IsEvaluated {A = A} (Bound task weighed others) ps out standing =
     (a : Assessment A) × IsScheduleAssessment task weighed ps a
     × ((m : Option Measures) × AreMeasuredBy others ps m
     × (out ≡ measured_text (assessment_text task (length task.jobs) a) m))
-    × (standing ≡ standing_as (assessed_of a.fit a.bound.value))
+    × (standing ≡ assessed_of a.fit a.bound.value)
 
 -- the same of a standing that is kept as that of one order
 abbrev pub IsEvaluatedAs : {A : Type 0} → Measure A → List Piece → List ℕ → OrdersRated → Type 0
@@ -91,34 +86,27 @@ IsEvaluatedAs m ps out rateds.Lines = ⊥
 
 -- ---- many orders, a line each
 
--- the cost and the gap to the optimum of a schedule that fits, with its values by the other objectives
--- where those are asked for, or the misfit
-abbrev pub row_words : Fit → ℤ → Option Measures → List (List ℕ)
-row_words (Fits value) best m =
-    signed_decimal value ∷ decimal (gap value best) ∷ measured_words m
-row_words fit best m = fit_words (Some fit)
-
--- by how much a cost is above a bound, or `-` where it is missing
+-- by how much a cost is above the least one or a bound, or `-` where it is missing
 abbrev pub gap_or_dash : Option ℤ → ℤ → List ℕ
-gap_or_dash None bound = codes "-"
-gap_or_dash (Some value) bound = decimal (unsigned_abs (value -ℤ bound))
+gap_or_dash None least = codes "-"
+gap_or_dash (Some value) least = decimal (unsigned_abs (value -ℤ least))
 
--- the same beside a lower bound, to which the gap is
-abbrev pub problem_row_words : ProblemFit → ℤ → Option Measures → List (List ℕ)
-problem_row_words (fits.Fits value) bound m =
-    value_word value ∷ gap_or_dash value bound ∷ measured_words m
-problem_row_words fit bound m = assessments.fit_words (Some fit)
+-- the cost of a schedule that fits, and its gap to the least cost or to a lower bound, with its values
+-- by the other objectives where those are asked for; or the misfit
+abbrev pub row_words : ProblemFit → ℤ → Option Measures → List (List ℕ)
+row_words (Fits value) least m = value_word value ∷ gap_or_dash value least ∷ measured_words m
+row_words fit least m = fit_words (Some fit)
 
 -- the line of these pieces
 abbrev pub IsRowOf : {A : Type 0} → Measure A → List Piece → List ℕ → Type 0
 IsRowOf (Optimum problem task best steps others) ps row =
-    (fit : Fit) × IsJudged task ps fit
+    (fit : ProblemFit) × IsJudgedAs task ps fit
     × ((m : Option Measures) × AreMeasuredBy others ps m
     × (row ≡ line_text (row_words fit best m)))
 IsRowOf (Bound task weighed others) ps row =
     (fit : ProblemFit) × IsProblemJudged task ps fit
     × ((m : Option Measures) × AreMeasuredBy others ps m
-    × (row ≡ line_text (problem_row_words fit weighed.bound.value m)))
+    × (row ≡ line_text (row_words fit weighed.bound.value m)))
 
 -- the line of the order that a text says
 abbrev pub IsRow : {A : Type 0} → Measure A → List ℕ → List ℕ → Type 0

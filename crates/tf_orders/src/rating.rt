@@ -4,7 +4,7 @@ ghost use Rattle.std.specs.Prelude.{MatchResult};
 ghost use Rattle.tf_words.specs.Words.{kept_lines, lines};
 ghost use Rattle.tf_model.specs.Limit.{most_bytes};
 ghost use Rattle.tf_engine.specs.Faults.{stop_of};
-ghost use Rattle.tf_check.specs.Judgement.{IsJudged};
+ghost use Rattle.tf_evaluate.specs.Evaluating.{IsJudgedAs};
 ghost use Rattle.tf_orders.specs.OrderParts.{IsUndrawn, IsUnrated, IsWithoutRow};
 ghost use Rattle.tf_orders.specs.Pieces.{pieces_of};
 ghost use Rattle.tf_orders.specs.OrderText.{AreRated, AreRows, IsEvaluatedAs, IsLineOf, IsRowOf};
@@ -19,22 +19,21 @@ use crate::pieces::pieces_in;
 use crate::ruled::ruled;
 use crate::run_orders::{OrderForm, OrdersRated};
 use crate::schedules::scheduled;
-use crate::writing::{push_problem_row, push_row};
+use crate::writing::push_row;
 use std::alloc::Allocator;
 use tf_assess::assess::{judge_problem_pieces, judged};
 use tf_assess::assessment::Assessment;
 use tf_assess::measures::{measured_by, with_measures};
 use tf_assess::offered::Weighed;
-use tf_assess::run_rate::standing_as;
 use tf_assess::writing::assessment_bytes;
 use tf_bound::task::ProblemTask;
 use tf_check::certificate::Certificate;
-use tf_check::judgement::{Fit, Judgement, judge_answer};
+use tf_check::judgement::{Judgement, judge_answer};
 use tf_check::load::Load;
 use tf_engine::fault::RunFault;
 use tf_engine::output::Output;
 use tf_evaluate::evaluate::judge_pieces;
-use tf_evaluate::evaluation::Evaluation;
+use tf_evaluate::evaluation::{Evaluation, ProblemFit, problem_fit};
 use tf_evaluate::step::Step;
 use tf_evaluate::writing::evaluation_bytes;
 use tf_model::memory::OutOfMemory;
@@ -166,7 +165,7 @@ fn evaluated<A: Allocator + Copy>(
             let measures = measured_by(alloc, &others, &pieces)?;
             let assessment = assessment_of(alloc, &task, weighed, pieces)?;
             let text = with_measures(assessment_bytes(alloc, &task, &assessment)?, &measures)?;
-            let returned = OrdersRated::Single(standing_as(assessment.assessed()));
+            let returned = OrdersRated::Single(assessment.standing());
             Ok(Output { text, returned })
         }
     }
@@ -301,7 +300,7 @@ pub(crate) fn push_rated<A: Allocator + Copy, B: Allocator>(
         } => {
             let measures = measured_by(alloc, others, &pieces)?;
             let fit = fit_of(alloc, task, pieces)?;
-            push_row(out, fit, *best, &measures)
+            push_row(out, fit, i128::from(*best), &measures)
         }
         Measure::Bound {
             task,
@@ -310,7 +309,7 @@ pub(crate) fn push_rated<A: Allocator + Copy, B: Allocator>(
         } => {
             let measures = measured_by(alloc, others, &pieces)?;
             let fit = judged(alloc, task, pieces)?;
-            push_problem_row(out, fit, weighed.bound.value, &measures)
+            push_row(out, fit, weighed.bound.value, &measures)
         }
     }
 }
@@ -320,11 +319,11 @@ fn fit_of<A: Allocator + Copy, B: Allocator>(
     alloc: A,
     task: &Task<B>,
     pieces: Vec<Piece, A>,
-) -> Result<Fit, OutOfMemory>
-    ensures { IfOk result (IsJudged task.now pieces.items) }
+) -> Result<ProblemFit, OutOfMemory>
+    ensures { IfOk result (IsJudgedAs task.now pieces.items) }
 {
     // What this certificate bounds is not looked at.
     let load: Certificate<A> = Certificate::Load(Load);
     let Judgement { fit, .. } = judge_answer(alloc, task, pieces, &load)?;
-    Ok(fit)
+    Ok(problem_fit(fit))
 }

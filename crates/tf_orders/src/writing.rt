@@ -3,39 +3,16 @@ ghost use Rattle.std.specs.Prelude.{◌≡◌, ◌∷◌, ◌++◌, codes, OnOk}
 ghost use Rattle.std.specs.Fmt.{decimal};
 ghost use Rattle.tf_assess.specs.Measures.{measured_words};
 ghost use Rattle.tf_text.specs.AnswerText.{line_text};
-ghost use Rattle.tf_orders.specs.OrderText.{problem_row_words, row_words, wrong_words};
+ghost use Rattle.tf_orders.specs.OrderText.{row_words, wrong_words};
 
 use crate::flaw::Flaw;
 use itoa::Buffer;
 use std::alloc::Allocator;
-use tf_assess::assessment::ProblemFit;
 use tf_assess::measures::{Measures, push_values};
-use tf_assess::writing::push_fit as push_problem_fit;
-use tf_check::judgement::Fit;
+use tf_evaluate::evaluation::ProblemFit;
 use tf_evaluate::writing::push_fit;
 use tf_model::memory::OutOfMemory;
 use tf_text::answer::writing::{push_number, push_number_line};
-
-/// Adds the line of an order: the cost and the gap to the optimum, with these measures, or the
-/// misfit.
-pub(crate) fn push_row<A: Allocator>(
-    text: &mut Vec<u8, A>,
-    fit: Fit,
-    best: i64,
-    measures: &Option<Measures>,
-) -> Result<(), OutOfMemory>
-    ensures { OnOk result (text.new.items
-        ≡ text.old.items ++ line_text (row_words fit best measures.now)) }
-{
-    match fit {
-        Fit::Fits(value) => {
-            let mut digits = Buffer::new();
-            let gap = value.abs_diff(i128::from(best));
-            push_rated(text, digits.format(value).as_bytes(), gap, measures)
-        }
-        fit => push_fit(text, &Some(fit)),
-    }
-}
 
 // Adds a line of a value, its gap and these measures.
 fn push_rated<A: Allocator>(
@@ -54,15 +31,16 @@ fn push_rated<A: Allocator>(
     Ok(())
 }
 
-/// The same of a problem without a solver, with the gap to the lower bound.
-pub(crate) fn push_problem_row<A: Allocator>(
+/// Adds the line of an order: the cost and the gap to the least one or to a lower bound, with these
+/// measures, or the misfit.
+pub(crate) fn push_row<A: Allocator>(
     text: &mut Vec<u8, A>,
     fit: ProblemFit,
-    bound: i128,
+    least: i128,
     measures: &Option<Measures>,
 ) -> Result<(), OutOfMemory>
     ensures { OnOk result (text.new.items
-        ≡ text.old.items ++ line_text (problem_row_words fit bound measures.now)) }
+        ≡ text.old.items ++ line_text (row_words fit least measures.now)) }
 {
     match fit {
         ProblemFit::Fits(Some(value)) => {
@@ -70,12 +48,12 @@ pub(crate) fn push_problem_row<A: Allocator>(
             push_rated(
                 text,
                 digits.format(value).as_bytes(),
-                value.abs_diff(bound),
+                value.abs_diff(least),
                 measures,
             )
         }
         ProblemFit::Fits(None) => push_unknown(text, measures),
-        fit => push_problem_fit(text, &Some(fit)),
+        fit => push_fit(text, &Some(fit)),
     }
 }
 

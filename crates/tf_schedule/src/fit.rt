@@ -25,7 +25,7 @@ use thiserror::Error;
 
 /// Why a schedule does not fit a task, in the order in which it is judged: each kind over all jobs
 /// before the next, always with the smallest job.
-#[derive(Debug, Drop, PartialEq, Eq, Error)]
+#[derive(Clone, Copy, Debug, Drop, PartialEq, Eq, Error)]
 pub enum Misfit {
     /// A piece names a job or a machine that the task does not have.
     #[error("job {} or machine {} is not the task's", .0.get(), .1.get())]

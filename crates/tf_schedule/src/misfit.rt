@@ -5,7 +5,7 @@ use thiserror::Error;
 
 /// Why a schedule does not fit the task of a problem, in the order in which it is judged: each kind
 /// over all jobs before the next, always with the smallest job.
-#[derive(Debug, Drop, PartialEq, Eq, Error)]
+#[derive(Clone, Copy, Debug, Drop, PartialEq, Eq, Error)]
 pub enum ProblemMisfit {
     /// What a schedule of a class may break too. Memory is never the reason.
     #[error("{0}")]

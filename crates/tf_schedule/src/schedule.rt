@@ -16,7 +16,7 @@ use tf_model::ids::{JobId, MachineId};
 use thiserror::Error;
 
 /// Why pieces make no schedule. Pieces are counted from 1.
-#[derive(Debug, Drop, PartialEq, Eq, Error)]
+#[derive(Clone, Copy, Debug, Drop, PartialEq, Eq, Error)]
 pub enum PieceFault {
     /// The piece starts before time 0 or stops after [`tf_model::limit::LIMIT`].
     #[error("piece {0} is out of range")]

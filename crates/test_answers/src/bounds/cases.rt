@@ -4,13 +4,14 @@ use std::alloc::{AllocError, Global};
 use test_runs::devices::{Sink, Source};
 use test_runs::examples::Given;
 use test_runs::runs::{Ending, ending_of, request};
-use tf_assess::assessment::Assessed;
 use tf_assess::offered::Aids;
 use tf_assess::run_assess::{AssessmentRequest, run_assess};
 use tf_bounding::run_bound::run_bound;
 use tf_engine::request::Request;
+use tf_evaluate::evaluation::{Standing, WhyUnfit};
 use tf_planning::run_plan::run_plan;
 use tf_planning::writing::Planned;
+use tf_schedule::schedule::PieceFault;
 use tf_search::effort::{Effort, Nobody};
 use tf_text::answer::layout::Layout;
 use tf_text::counted::Counted;
@@ -28,7 +29,7 @@ pub struct Case {
     pub bound: &'static [u8],
     pub planned: &'static [u8],
     pub answer: &'static [u8],
-    pub assessed: Assessed,
+    pub assessed: Standing,
 }
 
 /// Three jobs of 4 on two machines: one machine has to take two of them.
@@ -40,7 +41,7 @@ const TWO_MACHINES: Case = Case {
     planned: b"answer 2\nproblem P2||Cmax\njobs 3\nmachines 2\nvalue 8\n",
     answer: b"answer 1\nproblem P2||Cmax\njobs 3\nmachines 2\nvalue 8\npiece 1 1 0 4\n\
         piece 3 1 4 8\npiece 2 2 0 4\ncert load\nend\n",
-    assessed: Assessed::Best,
+    assessed: Standing::Best,
 };
 
 /// On machine 3 no job comes before 3, and its times are 8. Job 2 waits a step there.
@@ -56,7 +57,7 @@ const THREE_MACHINES: Case = Case {
     answer: b"answer 1\nproblem F3|prmu|Cmax\njobs 3\nmachines 3\nvalue 12\npiece 3 1 0 1\n\
         piece 1 1 1 3\npiece 2 1 3 7\npiece 3 2 1 3\npiece 1 2 3 6\npiece 2 2 7 8\n\
         piece 3 3 3 8\npiece 1 3 8 9\npiece 2 3 10 12\ncert load\nend\n",
-    assessed: Assessed::Unproved,
+    assessed: Standing::Unproved,
 };
 
 /// Multipliers 1, 1/2 and 3/2 bound the weighted tardiness by 5/2, rounded up.
@@ -68,8 +69,8 @@ const TARDINESS: Case = Case {
         multipliers 1 1000000 1000000 500000 1500000\nend\n",
     planned: b"answer 2\nproblem 1||sumwT\njobs 3\nmachines 1\nvalue 3\n",
     answer: b"answer 1\nproblem 1||sumwT\njobs 3\nmachines 1\nvalue 0\npiece 1 1 0 2\n\
-        piece 2 1 1 2\ncert load\nend\n",
-    assessed: Assessed::Unfit,
+        piece 2 1 2 2\ncert load\nend\n",
+    assessed: Standing::Unfit(WhyUnfit::NoSchedule(PieceFault::EmptyPiece(2))),
 };
 
 /// A chain of 3, 2 and 4 steps.
@@ -81,7 +82,7 @@ const CHAIN: Case = Case {
     planned: b"answer 2\nproblem P2|prec|Cmax\njobs 3\nmachines 2\nvalue 9\n",
     answer: b"answer 1\nproblem P2|prec|Cmax\njobs 3\nmachines 2\nvalue 9\npiece 1 1 0 3\n\
         piece 3 1 5 9\npiece 2 2 3 5\ncert load\nend\n",
-    assessed: Assessed::Best,
+    assessed: Standing::Best,
 };
 
 /// By due date the times come to 2, and then to 5, which is more than 4.
@@ -93,7 +94,7 @@ const LATE_JOBS: Case = Case {
     planned: b"answer 2\nproblem 1||sumU\njobs 2\nmachines 1\nvalue 1\n",
     answer: b"answer 1\nproblem 1||sumU\njobs 2\nmachines 1\nvalue 1\npiece 1 1 0 2\n\
         piece 2 1 2 5\ncert load\nend\n",
-    assessed: Assessed::Best,
+    assessed: Standing::Best,
 };
 
 pub const CASES: [Case; 5] = [TWO_MACHINES, THREE_MACHINES, TARDINESS, CHAIN, LATE_JOBS];
@@ -140,7 +141,7 @@ impl Run<'_> {
         instance: &mut Source<'_>,
         answer: &mut Source<'_>,
         sink: &mut Sink,
-    ) -> Result<Assessed, Ending> {
+    ) -> Result<Standing, Ending> {
         let mut reader = Counted::new(instance);
         let mut other = Counted::new(answer);
         let mut writer = Counted::new(sink);

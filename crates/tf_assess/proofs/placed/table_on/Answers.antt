@@ -1,6 +1,6 @@
 use Rattle.std.proofs.Common.{Ok, subst}
 use Rattle.tf_schedule.specs.ProblemJudged.{IsJudgedBy}
-use Rattle.tf_assess.specs.declared.assessment.ProblemFit.TheVariants.{NoSchedule, Misfit}
+use Rattle.tf_evaluate.specs.declared.evaluation.ProblemFit.TheVariants.{NoSchedule, Misfit}
 use Rattle.tf_assess.specs.Placed.{IsSorted}
 use Rattle.tf_assess.proofs.placed.table_on.Goals as goal
 

@@ -51,7 +51,7 @@ returns g c =
           is = c.in_ok-assessment.ensures;
           written = c.in_ok-text.ensures;
         },
-        c.assessed-returned.ensures,
+        c.standing-returned.ensures,
       );
       readers = had.readers;
     }

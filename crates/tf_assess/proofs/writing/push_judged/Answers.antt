@@ -4,8 +4,9 @@ use Rattle.std.proofs.lemmas.Int.{to_z-of_z}
 use Rattle.std.specs.List.{flat_map}
 use Rattle.tf_text.specs.AnswerText.{line_text}
 use Rattle.tf_evaluate.specs.EvaluationText.{claimed_lines}
-use Rattle.tf_assess.specs.Assessing.{value_in, best_in}
-use Rattle.tf_assess.specs.AssessmentText.{fit_words, number_lines, gap_lines}
+use Rattle.tf_evaluate.specs.EvaluationData.{value_in}
+use Rattle.tf_evaluate.specs.EvaluationText.{fit_words, number_lines, gap_lines}
+use Rattle.tf_assess.specs.Assessing.{best_in}
 use Rattle.tf_assess.proofs.Written.{judged_written}
 use Rattle.tf_assess.proofs.writing.push_judged.Goals as goal
 

@@ -23,16 +23,16 @@ returns-in_default g c =
 
 pub returns : goal.returns
 returns g c = record {
-  run = c.assess_over.result;
+  run = c.assess_over-run.result;
   outcome = subst (λ (r : RequestData). IsOutcome {A = Global}
       (assessment_run Global (Some c.args.sheet) r
-      (use_of (bytes_left g.R.Read.remaining) c.args.instance.now c.assess_over.new.instance)
-      (use_of (bytes_left g.S.Read.remaining) c.args.answer.now c.assess_over.new.answer))
-      (use_of g.W.Write.contents c.args.console.now.writer c.assess_over.new.console.writer)
-      c.assess_over.result)
-      c.in-Ok.ensures c.assess_over.ensures.outcome;
-  ends = rw (← c.rated-run.ensures) c.end_evaluation-status.ensures.status;
-  said = rw (← c.rated-run.ensures, ← c.assess_over.ensures.unsaid)
+      (use_of (bytes_left g.R.Read.remaining) c.args.instance.now c.assess_over-run.new.instance)
+      (use_of (bytes_left g.S.Read.remaining) c.args.answer.now c.assess_over-run.new.answer))
+      (use_of g.W.Write.contents c.args.console.now.writer c.assess_over-run.new.console.writer)
+      c.assess_over-run.result)
+      c.in-Ok.ensures c.assess_over-run.ensures.outcome;
+  ends = c.end_evaluation-status.ensures.status;
+  said = rw (← c.assess_over-run.ensures.unsaid)
       (says_explained c.end_evaluation-status.ensures.line
       c.tell_evaluated.ensures);
 }

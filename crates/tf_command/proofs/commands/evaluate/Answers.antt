@@ -1,4 +1,4 @@
-use Rattle.std.proofs.Common.{Err, refl}
+use Rattle.std.proofs.Common.{Err}
 use Rattle.std.proofs.KnownBytes.{Keeps-refl}
 use Rattle.tf_text.specs.Counted.{inner_of}
 use Rattle.tf_engine.specs.declared.fault.RunFault.TheVariants.{OutOfMemory}
@@ -15,11 +15,7 @@ returns-in_default g c =
       run = Err OutOfMemory;
       outcome = record {
         solved = λ _. record { texts = (text, said); are_all = (is, is_said); outcome = Keeps-refl _ };
-        unsolved = λ _. (
-          Err OutOfMemory,
-          record { texts = (text, said); are_all = (is, is_said); outcome = Keeps-refl _ },
-          refl,
-        );
+        unsolved = λ _. record { texts = (text, said); are_all = (is, is_said); outcome = Keeps-refl _ };
       };
       ends = c.say_memory.ensures.status;
       said = says_alone c.say_memory.ensures.line;

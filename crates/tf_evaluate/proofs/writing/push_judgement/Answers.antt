@@ -2,8 +2,8 @@ use Rattle.std.proofs.Common.{◌≡◌, [], ◌∷◌, ◌++◌, codes, subst, 
 use Rattle.std.specs.List.{flat_map}
 use Rattle.std.specs.Fmt.{signed_decimal}
 use Rattle.tf_text.specs.AnswerText.{line_text}
-use Rattle.tf_evaluate.specs.EvaluationData.{EvaluationData}
-use Rattle.tf_evaluate.specs.EvaluationText.{fit_words, claimed_lines, value_lines, gap_lines, bound_lines, judgement_lines}
+use Rattle.tf_evaluate.specs.EvaluationData.{EvaluationData, value_in}
+use Rattle.tf_evaluate.specs.EvaluationText.{fit_words, claimed_lines, number_lines, gap_lines, bound_lines, judgement_lines}
 use Rattle.tf_evaluate.proofs.Written.{judgement_written}
 use Rattle.tf_evaluate.proofs.writing.push_judgement.Goals as goal
 
@@ -24,12 +24,13 @@ returns g c =
     ++ line_text (fit_words c.evaluation.inside.fit) = search rules in
     let claimed : c.push_claimed.new.text.items ≡ c.push_fit.new.text.items
     ++ flat_map line_text (claimed_lines c.evaluation.inside.claimed) = search rules in
-    let value : c.push_value.new.text.items ≡ c.push_claimed.new.text.items
-    ++ flat_map line_text (value_lines c.evaluation.inside.fit) = search rules in
-    let best : c.push_number_line.new.text.items ≡ c.push_value.new.text.items
+    let value : c.push_some.new.text.items ≡ c.push_claimed.new.text.items
+    ++ flat_map line_text (number_lines (codes "value") (value_in c.evaluation.inside.fit)) =
+    search rules in
+    let best : c.push_number_line.new.text.items ≡ c.push_some.new.text.items
     ++ line_text (codes "best" ∷ signed_decimal c.evaluation.inside.best ∷ []) = search rules in
     let gap : c.push_gap.new.text.items ≡ c.push_number_line.new.text.items
-    ++ flat_map line_text (gap_lines c.evaluation.inside.fit c.evaluation.inside.best) =
+    ++ flat_map line_text (gap_lines (value_in c.evaluation.inside.fit) c.evaluation.inside.best) =
     search rules in
     let bound : c.push_bound.new.text.items ≡ c.push_gap.new.text.items
     ++ flat_map line_text (bound_lines c.evaluation.inside.bound) = search rules in

@@ -1,7 +1,6 @@
 use Rattle.std.proofs.Common.{rules, ℤ, SFits, w64, ap, subst, ◌∙◌}
 use Rattle.std.proofs.lemmas.Int.{to_z-of_z}
 use Rattle.tf_assess.specs.Measures.{AreMeasuredBy, measured_text}
-use Rattle.tf_assess.specs.RunRating.{standing_as}
 use Rattle.tf_orders.specs.OrderText.{IsScheduleEvaluation}
 use Rattle.tf_orders.proofs.rating.evaluated.Goals as goal
 
@@ -40,5 +39,5 @@ returns-in_ok-text-in-Bound g c = rw c.in-Bound.is (
         ∙ ap (λ text. measured_text text c.in_ok-measures-in-Bound.measures)
         c.in_ok-assessment_bytes-in-Bound.ensures,
   ),
-  c.standing_as.ensures ∙ ap standing_as c.assessed.ensures,
+  c.standing-in-Bound.ensures,
 )
