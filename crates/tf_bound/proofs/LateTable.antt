@@ -66,16 +66,6 @@ module _ (p w room : ℕ → ℕ) (jobs : List ℕ) where
       table-small (length jobs - 1 - done) x last table (omega (arith, lt)) is
       (subst (λ i. IsTable i last table) (omega (arith, lt)) old)
 
-  pub back-left : (done x last : ℕ) (table : List ℕ) → done < length jobs
-      → x ≡ get_or jobs (length jobs - 1 - done) x → IsTable (length jobs - done) last table
-      → p x ≤ last
-  back-left done x last table lt is old =
-      omega (
-        arith,
-        table-left (length jobs - 1 - done) x last table (omega (arith, lt)) is
-            (subst (λ i. IsTable i last table) (omega (arith, lt)) old),
-      )
-
   pub back-more : (done x last : ℕ) (table next : List ℕ) → done < length jobs
       → x ≡ get_or jobs (length jobs - 1 - done) x → IsTable (length jobs - done) last table
       → IsNext last (p x) (w x) (room x) table next

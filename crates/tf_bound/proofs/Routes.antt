@@ -121,21 +121,6 @@ module _ (k : ProblemData) (flow : is_flow_env k.problem.env ≡ true) (a j : �
       whole : (n b : ℕ) → 0 + n - b ≡ n - b
       whole n b = omega arith
 
-module _ (k : ProblemData) (not_flow : is_flow_env k.problem.env ≡ false)
-    (no_routes : is_job_shop k.problem.env ≡ false) (a j : ℕ) where
-  pub head_elsewhere : head k a j ≡ problem_release k j
-  head_elsewhere =
-      ap (λ r. problem_release k j + sum_by (slice_index (problem_job k j).times) (before a r))
-      (no_route k.problem.env not_flow no_routes k j) ∙ whole (problem_release k j)
-    where
-      whole : (n : ℕ) → n + 0 ≡ n
-      whole n = omega arith
-
-  pub tail_elsewhere : tail k a j ≡ 0
-  tail_elsewhere =
-      ap (λ r. sum_by (slice_index (problem_job k j).times) (behind a r))
-      (no_route k.problem.env not_flow no_routes k j)
-
 module _ (k : ProblemData) (routed : is_job_shop k.problem.env ≡ true) (a j : ℕ) where
   pub head_in_job_shop : head k a j
       ≡ problem_release k j

@@ -14,12 +14,11 @@ use Rattle.tf_text.specs.Counted.{has_failed, AppendsPrefix, DeviceUse, unused, 
 use Rattle.tf_text.specs.AnswerText.{SheetData}
 use Rattle.tf_engine.specs.declared.fault.RunFault.{RunFault}
 use Rattle.tf_engine.specs.declared.fault.RunFault.TheVariants.{Device}
-use Rattle.tf_engine.specs.Drawing.{IsOfPieces}
 use Rattle.tf_engine.specs.Faults.{stop_of}
 use Rattle.tf_engine.specs.FormData.{FormData}
-use Rattle.tf_engine.specs.Parts.{ReadsSheet, ReadsTo, StopsBy}
+use Rattle.tf_engine.specs.Parts.{ReadsSheet, ReadsTo}
 use Rattle.tf_engine.specs.Checking.{IsOfAnswer}
-use Rattle.tf_engine.proofs.Unread.{part_stops, reading_stops}
+use Rattle.tf_engine.proofs.Unread.{reading_stops}
 use Rattle.tf_dated.specs.Dates.{dates_in}
 use Rattle.tf_dated.specs.DatedInstance.{dated_said}
 use Rattle.tf_dated.specs.Dated.{IsDated, IsDatedOver, IsDatedRunOf, IsDrawnSheet, IsForJobs, IsRefusedDated}
@@ -92,20 +91,6 @@ module _ (A T : Type 0) (view : View) (i : InstanceData) (remaining : T → Opti
     }
 
     module _ (jobs : IsForJobs i sheet) where
-      -- nor where its pieces are no schedule
-      pub unscheduled : (held : Option (List ℕ)) (writer : Bool) (e : RunFault A)
-          → StopsBy (IsOfPieces sheet.answer.pieces) (stop_of e)
-          → IsDatedOver view i (use_of remaining old new) (unused held writer) (Err e)
-      unscheduled held writer e stopped = record {
-        text = had.text;
-        is_all = had.is_all;
-        outcome = part_stops (IsDated view i had.text) (IsOfPieces sheet.answer.pieces)
-            (IsRefusedDated i had.text) (has_failed new ≡ true) held writer
-            (λ refused first. inr
-            (record { sheet = sheet; said = had.given; jobs = jobs; first = first }))
-            (stop_of e) stopped;
-      }
-
       module _ (writer : DeviceUse) (out : List ℕ) (drawn : IsDrawnSheet view i sheet out) where
         is_dated : IsDated view i had.text out
         is_dated = record { sheet = sheet; said = had.given; jobs = jobs; drawn = drawn }

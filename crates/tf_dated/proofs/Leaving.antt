@@ -6,21 +6,16 @@ use Rattle.tf_read.specs.declared.fault.ReadFault.{ReadFault}
 use Rattle.tf_routes.specs.JobShop.{job_shop}
 use Rattle.tf_routes.specs.RoutedData.{RoutedData}
 use Rattle.tf_routes.specs.RoutedTable.{routed_table}
-use Rattle.tf_schedule.specs.declared.piece.Piece.{Piece}
 use Rattle.tf_text.specs.declared.counted.Counted.{Counted}
 use Rattle.tf_text.specs.Counted.{has_failed}
-use Rattle.tf_text.specs.AnswerText.{SheetData}
 use Rattle.tf_engine.specs.declared.fault.RunFault.{RunFault}
-use Rattle.tf_engine.specs.declared.fault.RunFault.TheVariants.{Device}
-use Rattle.tf_engine.specs.Devices.{LeavesReader, LeavesInstance, LeavesBoth, LeavesDrawing, LeavesCase}
-use Rattle.tf_engine.specs.Drawing.{IsOfPieces}
-use Rattle.tf_engine.specs.Faults.{Refused, ByText, Stop, Refuses, Fails, Wants, is_on_answer, is_on_instance, stop_of, end_of}
+use Rattle.tf_engine.specs.Devices.{LeavesInstance, LeavesBoth}
+use Rattle.tf_engine.specs.Faults.{Refused, ByText, Stop, Refuses, Fails, Wants, is_on_answer, stop_of}
 use Rattle.tf_engine.specs.FormData.{FormData, InTable, InWt, InFlow}
-use Rattle.tf_engine.specs.Parts.{ReadsSheet, ReadsTo, StopsBy, StopsReading}
-use Rattle.tf_engine.specs.Checking.{IsOfAnswer}
+use Rattle.tf_engine.specs.Parts.{ReadsTo, StopsReading}
 use Rattle.tf_engine.specs.Refusal.{refused_by, instance_in}
 use Rattle.tf_engine.proofs.CaseRead.{instance_left}
-use Rattle.tf_engine.proofs.Devices.{reader_sound, reader_later, instance_sound, instance_later, stopped, cut, wrote}
+use Rattle.tf_engine.proofs.Devices.{instance_sound, instance_later, stopped}
 use Rattle.tf_dated.specs.DatedInstance.{dated_said, without_routes}
 use Rattle.tf_dated.specs.Leaving.{LeavesBeside, LeavesDated}
 use Rattle.tf_dated.specs.declared.run_dated.Pictured.{Pictured}
@@ -51,61 +46,6 @@ instance_first : (form : FormData) (text : List ℕ) (R : Type 0) (s : Stop)
 instance_first form text R Fails h = refl
 instance_first form text R Wants h = refl
 instance_first form text R (Refuses refused) h = refused_first form text refused h
-
--- and none of the answer or of its pieces is for the instance's sake
-answer_last : (text : List ℕ) (R : Type 0) (s : Stop) → StopsReading (IsOfAnswer text) R s
-    → is_on_instance s ≡ false
-answer_last text R Fails h = refl
-answer_last text R Wants h = refl
-answer_last text R (Refuses refused) (fault, is, said) = rw is refl
-
-pieces_last : (pieces : List Piece) (s : Stop) → StopsBy (IsOfPieces pieces) s
-    → is_on_instance s ≡ false
-pieces_last pieces Fails h = absurd h
-pieces_last pieces Wants h = refl
-pieces_last pieces (Refuses refused) (fault, is, first) = rw is refl
-
--- ---- the run over an instance
-
-module _ (A U V : Type 0) (giving : U → Option (List ℕ)) (before after : Counted U)
-    (held : Counted V) where
-  -- the answer says no sheet
-  pub unsaid_leaves : (e : RunFault A) → ReadsSheet giving before after (Err e)
-      → LeavesBeside giving before after held held (Err e)
-  unsaid_leaves e had = (
-    answer_last had.text (has_failed after ≡ true) (stop_of e) had.given,
-    stopped (LeavesReader giving before after) (has_failed after ≡ true) held (stop_of e) had.reader,
-  )
-
-  module _ (sheet : SheetData) (had : ReadsSheet {A = A} giving before after (Ok sheet)) where
-    -- it is for other jobs
-    pub others_leave : LeavesBeside {A = A} giving before after held held (Ok OtherTask)
-    others_leave = (had.reader, refl)
-
-    -- its pieces are no schedule, or memory was wanting
-    pub undrawn_leaves : (e : RunFault A) → StopsBy (IsOfPieces sheet.answer.pieces) (stop_of e)
-        → LeavesBeside giving before after held held (Err e)
-    undrawn_leaves e why = (
-      pieces_last sheet.answer.pieces (stop_of e) why,
-      stopped (LeavesReader giving before after) (has_failed after ≡ true) held (stop_of e)
-          (reader_later had.reader (Some (stop_of e))),
-    )
-
-    module _ (written : Counted V) where
-      -- the writer failed
-      pub cut_leaves : LeavesBeside {A = A} giving before after held written (Err Device)
-      cut_leaves = (
-        refl,
-        cut (LeavesReader giving before after) (has_failed after ≡ true) held written
-            (reader_sound had.reader) (reader_later had.reader (Some Fails)),
-      )
-
-      -- the picture was written
-      pub drawn_leaves : has_failed written ≡ false
-          → LeavesBeside {A = A} giving before after held written (Ok Drawn)
-      drawn_leaves ok =
-          wrote (LeavesReader giving before after) (has_failed after ≡ true) held written
-          (reader_sound had.reader) had.reader ok
 
 -- ---- the whole run
 

@@ -14,7 +14,7 @@ use Rattle.tf_engine.specs.FormData.{FormData, InTable, InWt, InFlow}
 use Rattle.tf_engine.specs.RequestData.{RequestData}
 use Rattle.tf_engine.specs.Faults.{Refused, Stop, Refuses, Fails, Wants}
 use Rattle.tf_engine.specs.Refusal.{problem_for, instance_in, task_in, task_for}
-use Rattle.tf_engine.specs.Parts.{StopsBy, StopsReading}
+use Rattle.tf_engine.specs.Parts.{StopsReading}
 use Rattle.tf_engine.specs.Runs.{Leaves}
 pub use Rattle.tf_engine.proofs.AcceptedAgain.{meant_by}
 
@@ -53,16 +53,7 @@ pub err_is : {X E : Type 0} (P : Result X E → Type 0) (f : E) (r : Result X E)
 err_is P f (Ok x) h p = absurd h
 err_is P f (Err e) h p = subst (λ e. P (Err e)) (sym h) p
 
--- a part that reads and writes nothing stops the run as it stopped
-pub part_stops : (Says : List ℕ → Type 0) (P Q : Refused → Type 0) (R : Type 0)
-    (held : Option (List ℕ)) (writer : Bool)
-    → ((refused : Refused) → P refused → Q refused)
-    → (s : Stop) → StopsBy P s → Leaves Says Q R (unused held writer) s
-part_stops Says P Q R held writer more (Refuses refused) h = (more refused h, Keeps-refl held)
-part_stops Says P Q R held writer more Fails h = absurd h
-part_stops Says P Q R held writer more Wants h = Keeps-refl held
-
--- and so does a part that reads alone
+-- a part that reads alone stops the run as it stopped
 pub reading_stops : (Says : List ℕ → Type 0) (P Q : Refused → Type 0) (F R : Type 0)
     (held : Option (List ℕ)) (writer : Bool)
     → ((refused : Refused) → P refused → Q refused) → (F → R)

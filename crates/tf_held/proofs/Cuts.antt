@@ -2,7 +2,7 @@
 use Rattle.std.proofs.Common.{◌≡◌, ℕ, ◌+◌, ◌<◌, ◌≤◌, true, not, List, [], ◌∷◌, ◌++◌, length, map, get_or, take, drop, Some, None, refl, sym, ap, subst, ◌∙◌, arith, append-nil, drop-cons, length-drop}
 use Rattle.std.specs.List.{position, position_or_len}
 use Rattle.std.proofs.lemmas.List.{drop-drop, drop_all, length-append, take-append-drop, take_all}
-use Rattle.std.proofs.Math.Seq.{drop-append_seam, take-append_seam}
+use Rattle.std.proofs.Math.Seq.{drop-append_seam}
 use Rattle.std.proofs.lemmas.List.Sums.{passes_at_first}
 use Rattle.tf_words.specs.Words.{Word, is_white, words, placed_words}
 use Rattle.tf_words.proofs.Parts.{first_last, first_then, gap_only, is_place}
@@ -90,13 +90,6 @@ module _ (text : List ℕ) (count at : ℕ) (passed : HasPassed text count at) w
           passed.count_is,
         );
       }
-
-  -- as many as are wanted
-  pub front_is : words (take at text) ≡ take count (words text)
-  front_is =
-      sym (ap (take count) passed.both
-      ∙ ap (λ m. take m (words (take at text) ++ words (drop at text))) (sym passed.count_is)
-      ∙ take-append_seam (words (take at text)) (words (drop at text)))
 
   pub rest_is : words (drop at text) ≡ drop count (words text)
   rest_is =

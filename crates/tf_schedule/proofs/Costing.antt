@@ -1,7 +1,7 @@
 -- What the known pieces cost.
 use Rattle.std.proofs.Common.{◌≡◌, ℕ, zero, suc, ◌+◌, ◌-◌, ◌*◌, ◌<◌, ◌≤◌, max, ℤ, ◌≤ℤ◌, Bool, true, false, cond, ◌&&◌, eqb, List, [], ◌∷◌, ◌++◌, length, get_or, take, append-nil, add-mul, mul-le-mul_left, mul-le-mul_right, refl, sym, ap, subst, ◌∙◌, arith, IsTrue}
 use Rattle.std.specs.List.{All, sum_by, range_with_len}
-use Rattle.std.proofs.lemmas.List.Elements.{All-filter, All-tail, filter_passes, filter_more}
+use Rattle.std.proofs.lemmas.List.Elements.{All-filter, filter_passes, filter_more}
 use Rattle.std.proofs.lemmas.List.Sums.{sum_by-cons}
 use Rattle.std.proofs.Math.Nat.{le-mul_of_pos_right}
 use Rattle.std.proofs.lemmas.Int.{ints}
@@ -66,18 +66,6 @@ module _ (k : SchedulingTask) where
   known_ge f (p ∷ ps) j zero d h e own = first_step p ps f j (is_known k p) e own
   known_ge f (p ∷ ps) j (suc i) d h e own =
       omega (arith, known_ge f ps j i d (omega arith) e own, kept_step p ps f j (is_known k p) refl)
-
-  -- where all pieces are known, none is left out
-  pub known_pieces_all : (ps : List Piece) → All (IsKnown k) ps → known_pieces k ps ≡ ps
-  known_pieces_all [] all = refl
-  known_pieces_all (p ∷ ps) all =
-      step (is_known k p) (test_from_known p (all 0 p (omega arith)))
-      (known_pieces_all ps (All-tail (IsKnown k) p ps all))
-    where
-      step : (b : Bool) → b ≡ true → known_pieces k ps ≡ ps
-          → cond b (p ∷ known_pieces k ps) (known_pieces k ps) ≡ p ∷ ps
-      step true e rest = ap (λ qs. p ∷ qs) rest
-      step false e rest = absurd (cc)
 
   module _ (ps : List Piece) (schedule : IsSchedule ps) where
     known_on : All (IsOnMachine k.machines) (known_pieces k ps)

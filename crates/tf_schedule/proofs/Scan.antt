@@ -134,9 +134,6 @@ module _ (line : Piece → ℕ) where
     is_q : (d : Piece) → get_or ps k d ≡ q
     is_q d = get_or_default ps k d q in_range ∙ sym read_q
 
-    sound_p : IsPiece p
-    sound_p = subst IsPiece (is_p p) (sound (k - 1) p (omega arith))
-
     sound_q : IsPiece q
     sound_q = subst IsPiece (is_q q) (sound k q in_range)
 
