@@ -3,3 +3,4 @@ mod Writing
 pub mod Kept
 pub mod Unread
 pub mod Saying
+mod Wanting

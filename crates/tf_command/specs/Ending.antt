@@ -3,7 +3,6 @@
 use Rattle.std.specs.Prelude.{◌≡◌, ℕ, Bool, false, List, [], ◌∷◌, ◌++◌, codes, Option, Result, Ok, Err}
 use Rattle.tf_text.specs.Counted.{DeviceUse}
 use Rattle.tf_engine.specs.declared.fault.RunFault.{RunFault}
-use Rattle.tf_engine.specs.declared.run_check.Checked.{Checked}
 use Rattle.tf_engine.specs.RequestData.{RequestData}
 use Rattle.tf_engine.specs.Headline.{solve_run}
 use Rattle.tf_engine.specs.Checking.{check_run}
@@ -17,12 +16,9 @@ use Rattle.tf_dated.specs.declared.run_dated.Pictured.{Pictured}
 use Rattle.tf_dated.specs.declared.run_dated.Pictured.TheVariants.{Drawn, OtherTask}
 use Rattle.tf_picture.specs.declared.view.View.{View}
 use Rattle.tf_evaluate.specs.declared.evaluation.Detail.{Detail}
-use Rattle.tf_evaluate.specs.declared.evaluation.Standing.{Standing}
 use Rattle.tf_assess.specs.RunRating.{IsRatingOf}
 use Rattle.tf_assess.specs.Measures.{PosedData}
 use Rattle.tf_orders.specs.declared.run_orders.OrderForm.{OrderForm}
-use Rattle.tf_orders.specs.declared.run_orders.OrdersRated.{OrdersRated}
-use Rattle.tf_orders.specs.declared.run_orders.OrdersRated.TheVariants.{Single, Lines}
 use Rattle.tf_orders.specs.RunOrders.{orders_run}
 use Rattle.tf_bound_text.specs.BoundSheetData.{BoundSheetData}
 use Rattle.tf_bounding.specs.RunBounding.{bound_run}
@@ -30,31 +26,14 @@ use Rattle.tf_trace.specs.RunTracing.{trace_run}
 use Rattle.tf_asked.specs.declared.options.Drawing.{Drawing}
 use Rattle.tf_asked.specs.declared.options.Drawing.TheVariants.{Chart, Picture}
 use Rattle.tf_text.specs.declared.counted.Counted.{Counted}
-use Rattle.tf_command.specs.Statuses.{status_of, status_of_check, status_of_standing}
+use Rattle.tf_command.specs.Statuses.{status_of, status_of_text, status_of_check, status_of_standing, status_of_rated}
 use Rattle.tf_command.specs.FaultLine.{fault_line, refused_line}
 use Rattle.tf_command.specs.Wrote.{Wrote}
 
--- after a run: 0 where it gave an answer, and otherwise the status of its fault
-abbrev pub status_of_run : {A : Type 0} → Result (Unit {0}) (RunFault A) → ℕ
-status_of_run (Ok _) = 0
-status_of_run (Err fault) = status_of fault
-
--- after a check: whether the answer was accepted, and otherwise the status of its fault
-abbrev pub status_of_checking : {A : Type 0} → Result Checked (RunFault A) → ℕ
-status_of_checking (Ok checked) = status_of_check checked
-status_of_checking (Err fault) = status_of fault
-
--- after an evaluation: how good the answer is, and otherwise the status of its fault
-abbrev pub status_of_evaluating : {A : Type 0} → Result Standing (RunFault A) → ℕ
-status_of_evaluating (Ok standing) = status_of_standing standing
-status_of_evaluating (Err fault) = status_of fault
-
--- after a run over orders: how good the schedule of one order is, 0 where a line was written of each,
--- and otherwise the status of its fault
-abbrev pub status_of_rating : {A : Type 0} → Result OrdersRated (RunFault A) → ℕ
-status_of_rating (Ok (Single standing)) = status_of_standing standing
-status_of_rating (Ok Lines) = 0
-status_of_rating (Err fault) = status_of fault
+-- after a run: the status of what it gave, and otherwise that of its fault
+abbrev pub status_after : {X A : Type 0} → (X → ℕ) → Result X (RunFault A) → ℕ
+status_after exit_status (Ok x) = exit_status x
+status_after exit_status (Err fault) = status_of fault
 
 -- after a picture with the dates of an instance: refused where the answer is for other jobs
 abbrev pub status_of_picturing : {A : Type 0} → Result Pictured (RunFault A) → ℕ
@@ -81,64 +60,58 @@ pub record SaysLine {E : Type 0} (contents : E → Option (List ℕ)) (explain :
   pub wrote : Wrote contents old new (line ++ explanation)
   pub alone : explain ≡ false → explanation ≡ []
 
-pub record EndsSolving (A : Type 0) (request : RequestData) (instance writer : DeviceUse)
+-- a run that is asked for ended, with the status of what it gave and the line of its fault
+pub record Ends {X A : Type 0} (IsAsked : Result X (RunFault A) → Type 0) (exit_status : X → ℕ)
     (says : List ℕ → Type 0) (status : ℕ) : Type 0 where
-  pub run : Result (Unit {0}) (RunFault A)
-  pub outcome : IsOutcome (solve_run request instance) writer run
-  pub ends : status ≡ status_of_run run
+  pub run : Result X (RunFault A)
+  pub outcome : IsAsked run
+  pub ends : status ≡ status_after exit_status run
   pub said : says (line_of run)
 
-pub record EndsBounding (A : Type 0) (request : RequestData) (instance writer : DeviceUse)
-    (says : List ℕ → Type 0) (status : ℕ) : Type 0 where
-  pub run : Result (Unit {0}) (RunFault A)
-  pub outcome : IsOutcome (bound_run A request instance) writer run
-  pub ends : status ≡ status_of_run run
-  pub said : says (line_of run)
+abbrev pub EndsSolving : Type 0 → RequestData → DeviceUse → DeviceUse → (List ℕ → Type 0) → ℕ
+    → Type 0
+EndsSolving A request instance writer says status =
+    Ends (IsOutcome {A = A} (solve_run request instance) writer) status_of_text says status
 
-pub record EndsTracing (A : Type 0) (request : RequestData) (instance writer : DeviceUse)
-    (says : List ℕ → Type 0) (status : ℕ) : Type 0 where
-  pub run : Result (Unit {0}) (RunFault A)
-  pub outcome : IsOutcome (trace_run request instance) writer run
-  pub ends : status ≡ status_of_run run
-  pub said : says (line_of run)
+abbrev pub EndsBounding : Type 0 → RequestData → DeviceUse → DeviceUse → (List ℕ → Type 0) → ℕ
+    → Type 0
+EndsBounding A request instance writer says status =
+    Ends (IsOutcome {A = A} (bound_run A request instance) writer) status_of_text says status
 
-pub record EndsChecking (A : Type 0) (request : RequestData) (instance answer writer : DeviceUse)
-    (says : List ℕ → Type 0) (status : ℕ) : Type 0 where
-  pub run : Result Checked (RunFault A)
-  pub outcome : IsOutcome (check_run request instance answer) writer run
-  pub ends : status ≡ status_of_checking run
-  pub said : says (line_of run)
+abbrev pub EndsTracing : Type 0 → RequestData → DeviceUse → DeviceUse → (List ℕ → Type 0) → ℕ
+    → Type 0
+EndsTracing A request instance writer says status =
+    Ends (IsOutcome {A = A} (trace_run request instance) writer) status_of_text says status
+
+abbrev pub EndsChecking : Type 0 → RequestData → DeviceUse → DeviceUse → DeviceUse
+    → (List ℕ → Type 0) → ℕ → Type 0
+EndsChecking A request instance answer writer says status =
+    Ends (IsOutcome {A = A} (check_run request instance answer) writer) status_of_check says status
 
 -- what such a drawing is
 abbrev pub drawn_as : Drawing → SheetData → List ℕ → Type 0
 drawn_as (Chart columns) = IsChart columns
 drawn_as (Picture view) = IsPicture view
 
-pub record EndsDrawing (A : Type 0) (drawing : Drawing) (answer writer : DeviceUse)
-    (says : List ℕ → Type 0) (status : ℕ) : Type 0 where
-  pub run : Result (Unit {0}) (RunFault A)
-  pub outcome : IsOutcome (drawing_run (drawn_as drawing) answer) writer run
-  pub ends : status ≡ status_of_run run
-  pub said : says (line_of run)
+abbrev pub EndsDrawing : Type 0 → Drawing → DeviceUse → DeviceUse → (List ℕ → Type 0) → ℕ → Type 0
+EndsDrawing A drawing answer writer says status =
+    Ends (IsOutcome {A = A} (drawing_run (drawn_as drawing) answer) writer) status_of_text says status
 
+abbrev pub EndsEvaluating : Type 0 → Detail → RequestData → DeviceUse → DeviceUse → DeviceUse
+    → (List ℕ → Type 0) → ℕ → Type 0
+EndsEvaluating A detail request instance answer writer says status =
+    Ends (IsRatingOf {A = A} detail request instance answer writer) status_of_standing says status
+
+abbrev pub EndsRating : Type 0 → OrderForm → Option BoundSheetData → RequestData
+    → Option PosedData → DeviceUse → DeviceUse → DeviceUse → (List ℕ → Type 0) → ℕ → Type 0
+EndsRating A form offer request others instance orders writer says status =
+    Ends (IsOutcome {A = A} (orders_run A form offer request others instance orders) writer)
+    status_of_rated says status
+
+-- a picture may be refused by what the run gave, which has a line of its own
 pub record EndsPicturing (A : Type 0) (view : View) (form : FormData)
     (instance answer writer : DeviceUse) (says : List ℕ → Type 0) (status : ℕ) : Type 0 where
   pub run : Result Pictured (RunFault A)
   pub outcome : IsDatedRunOf view form instance answer writer run
   pub ends : status ≡ status_of_picturing run
   pub said : says (line_of_picturing run)
-
-pub record EndsEvaluating (A : Type 0) (detail : Detail) (request : RequestData)
-    (instance answer writer : DeviceUse) (says : List ℕ → Type 0) (status : ℕ) : Type 0 where
-  pub run : Result Standing (RunFault A)
-  pub outcome : IsRatingOf detail request instance answer writer run
-  pub ends : status ≡ status_of_evaluating run
-  pub said : says (line_of run)
-
-pub record EndsRating (A : Type 0) (form : OrderForm) (offer : Option BoundSheetData)
-    (request : RequestData) (others : Option PosedData) (instance orders writer : DeviceUse)
-    (says : List ℕ → Type 0) (status : ℕ) : Type 0 where
-  pub run : Result OrdersRated (RunFault A)
-  pub outcome : IsOutcome (orders_run A form offer request others instance orders) writer run
-  pub ends : status ≡ status_of_rating run
-  pub said : says (line_of run)

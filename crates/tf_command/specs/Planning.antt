@@ -7,10 +7,10 @@ use Rattle.tf_engine.specs.Headline.{solve_run}
 use Rattle.tf_engine.specs.Runs.{IsOutcome}
 use Rattle.tf_assess.specs.RunRating.{is_solved}
 use Rattle.tf_planning.specs.declared.writing.Planned.{Planned}
-use Rattle.tf_planning.specs.declared.writing.Planned.TheVariants.{Optimal, Open}
+use Rattle.tf_planning.specs.declared.writing.Planned.TheVariants.{Optimal}
 use Rattle.tf_planning.specs.RunPlanning.{plan_run}
-use Rattle.tf_command.specs.Ending.{line_of}
-use Rattle.tf_command.specs.Statuses.{status_of}
+use Rattle.tf_command.specs.Ending.{Ends}
+use Rattle.tf_command.specs.Statuses.{status_of_planned}
 
 -- an answer of a solver is optimal
 abbrev pub as_planned : {A : Type 0} → Result (Unit {0}) (RunFault A) → Result Planned (RunFault A)
@@ -27,15 +27,7 @@ pub record IsPlannedRun {A : Type 0} (request : RequestData) (instance writer : 
   pub unsolved : IsFalse (is_solved request.problem)
       → IsOutcome (plan_run A request instance) writer result
 
--- after a plan: proved to be optimal, or not; and otherwise the status of its fault
-abbrev pub status_of_plan : {A : Type 0} → Result Planned (RunFault A) → ℕ
-status_of_plan (Ok Optimal) = 0
-status_of_plan (Ok Open) = 6
-status_of_plan (Err fault) = status_of fault
-
-pub record EndsPlanning (A : Type 0) (request : RequestData) (instance writer : DeviceUse)
-    (says : List ℕ → Type 0) (status : ℕ) : Type 0 where
-  pub run : Result Planned (RunFault A)
-  pub outcome : IsPlannedRun request instance writer run
-  pub ends : status ≡ status_of_plan run
-  pub said : says (line_of run)
+abbrev pub EndsPlanning : Type 0 → RequestData → DeviceUse → DeviceUse → (List ℕ → Type 0) → ℕ
+    → Type 0
+EndsPlanning A request instance writer says status =
+    Ends (IsPlannedRun {A = A} request instance writer) status_of_planned says status

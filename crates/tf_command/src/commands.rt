@@ -3,8 +3,7 @@ ghost use Rattle.std.specs.declared.alloc.Global.{Global};
 ghost use Rattle.tf_asked.specs.Asking.{requested};
 ghost use Rattle.tf_asked.specs.Columns.{HasWidth, IsSized};
 ghost use Rattle.tf_command.specs.Ending.{EndsSolving, EndsBounding, EndsTracing, EndsChecking};
-ghost use Rattle.tf_command.specs.Ending.{EndsEvaluating, EndsDrawing, SaysLine};
-ghost use Rattle.tf_command.specs.Ending.{drawn_as};
+ghost use Rattle.tf_command.specs.Ending.{EndsEvaluating, EndsDrawing, SaysLine, drawn_as};
 ghost use Rattle.tf_command.specs.Assessing.{EndsAssessed, EndsAssessing};
 ghost use Rattle.tf_command.specs.Planning.{EndsPlanning};
 ghost use Rattle.tf_engine.specs.Drawing.{drawing_run};
@@ -16,16 +15,14 @@ ghost use Rattle.tf_text.specs.Counted.{inner_of, use_of};
 
 use crate::bounding::{assess_over, bound_over, plan_over, rate_over};
 use crate::console::Console;
+use crate::ending::end_run;
 use crate::explained::{Ended, tell_drawn};
 use crate::picturing::picture_named;
 use crate::problems::{list_border, list_problems};
 use crate::rating::rate_orders;
 use crate::reading::say_unopened;
 use crate::recorded::{MOST_BESIDE, MOST_KEPT, Recorded, room};
-use crate::report::{
-    end_check, end_evaluation, end_plan, end_run, report_bound, say_device, say_memory,
-    say_no_table,
-};
+use crate::report::{report_bound, say_device, say_memory, say_no_table};
 use crate::source::Sources;
 use std::alloc::{Allocator, Global};
 use std::io::{Read, Write};
@@ -96,13 +93,8 @@ pub fn solve_named<S: Sources, W: Write, E: Write>(
         (use_of W.contents console.old.writer console.new.writer)
         (λ explain. SaysLine E.contents explain console.old.errors console.new.errors) result }
 {
-    match open(
-        console,
-        sources,
-        options.input,
-        MOST_KEPT,
-        options.telling.explain,
-    ) {
+    let explain = options.telling.explain;
+    match open(console, sources, options.input, MOST_KEPT, explain) {
         Ok(mut instance) => solve(console, options, layout, &mut instance),
         Err(status) => status,
     }
@@ -119,13 +111,8 @@ pub fn bound_named<S: Sources, W: Write, E: Write>(
         (use_of W.contents console.old.writer console.new.writer)
         (λ explain. SaysLine E.contents explain console.old.errors console.new.errors) result }
 {
-    match open(
-        console,
-        sources,
-        options.input,
-        MOST_KEPT,
-        options.telling.explain,
-    ) {
+    let explain = options.telling.explain;
+    match open(console, sources, options.input, MOST_KEPT, explain) {
         Ok(mut instance) => bound(console, options, steps, &mut instance),
         Err(status) => status,
     }
@@ -143,13 +130,8 @@ fn plan_named<S: Sources, W: Write, E: Write>(
         (use_of W.contents console.old.writer console.new.writer)
         (λ explain. SaysLine E.contents explain console.old.errors console.new.errors) result }
 {
-    match open(
-        console,
-        sources,
-        options.input,
-        MOST_KEPT,
-        options.telling.explain,
-    ) {
+    let explain = options.telling.explain;
+    match open(console, sources, options.input, MOST_KEPT, explain) {
         Ok(mut instance) => plan(console, options, layout, steps, &mut instance),
         Err(status) => status,
     }
@@ -166,13 +148,8 @@ fn trace_named<S: Sources, W: Write, E: Write>(
         (use_of W.contents console.old.writer console.new.writer)
         (λ explain. SaysLine E.contents explain console.old.errors console.new.errors) result }
 {
-    match open(
-        console,
-        sources,
-        options.input,
-        MOST_KEPT,
-        options.telling.explain,
-    ) {
+    let explain = options.telling.explain;
+    match open(console, sources, options.input, MOST_KEPT, explain) {
         Ok(mut instance) => trace(console, options, style, &mut instance),
         Err(status) => status,
     }
@@ -437,7 +414,7 @@ fn plan<R: Read, W: Write, E: Write>(
         return say_memory(&mut console.errors);
     };
     let run = plan_over(console, &request, steps, options.telling.explain, instance);
-    let status = end_plan(&run, &mut console.errors);
+    let status = end_run(&run, &mut console.errors);
     let ended = Ended {
         alloc,
         telling: options.telling,
@@ -495,7 +472,7 @@ fn check<R: Read, S: Read, W: Write, E: Write>(
         return say_memory(&mut console.errors);
     };
     let run = run_check(alloc, &request, instance, answer, &mut console.writer);
-    let status = end_check(&run, &mut console.errors);
+    let status = end_run(&run, &mut console.errors);
     let ended = Ended {
         alloc,
         telling: options.telling,
@@ -526,7 +503,7 @@ fn evaluate<R: Read, S: Read, W: Write, E: Write>(
         return say_memory(&mut console.errors);
     };
     let run = rate_over(console, evaluating, &request, instance, answer);
-    let status = end_evaluation(&run, &mut console.errors);
+    let status = end_run(&run, &mut console.errors);
     let ended = Ended {
         alloc,
         telling: evaluating.options.telling,
@@ -590,7 +567,7 @@ fn assess_offered<R: Read, S: Read, W: Write, E: Write>(
     };
     let explain = options.telling.explain;
     let run = assess_over(console, explain, asked, instance, answer);
-    let status = end_evaluation(&run, &mut console.errors);
+    let status = end_run(&run, &mut console.errors);
     let ended = Ended {
         alloc,
         telling: options.telling,

@@ -176,11 +176,10 @@ pub struct Ended<'a> {
 }
 
 impl Ended<'_> {
-    /// Says what is to be said of the options and of a run that solved, where the instance was
-    /// kept.
-    pub fn tell_solved<R, E: Write>(
+    /// Says what is to be said of the options and of a run over an instance, where that was kept.
+    pub fn tell_solved<T, R, E: Write>(
         &self,
-        run: &Result<(), RunFault>,
+        run: &Result<T, RunFault>,
         instance: &Recorded<'_, R>,
         errors: &mut Counted<E>,
     )
@@ -188,7 +187,7 @@ impl Ended<'_> {
     {
         if let Some(told) = Told::of_instance(instance) {
             let explanation = match run {
-                Ok(()) => explain::solved(self.alloc, self.request, &told.instance),
+                Ok(_) => explain::solved(self.alloc, self.request, &told.instance),
                 Err(fault) => told.refused(self.alloc, fault, self.request),
             };
             tell_behind(self.telling, explanation, errors);
@@ -205,31 +204,13 @@ impl Ended<'_> {
     )
         ensures { SaysLine E.contents self.now.telling.explain errors.old errors.new [] }
     {
-        self.tell_plan(run, instance, errors);
+        self.tell_solved(run, instance, errors);
         let standing = match run {
             Ok(Planned::Optimal) => IS_OPTIMAL,
             Ok(Planned::Open) => MAY_BE_BEATEN,
             Err(_) => "",
         };
         tell_text(self.telling.explain, standing, errors);
-    }
-
-    // Says what is to be said of the options and of a plan.
-    fn tell_plan<R, E: Write>(
-        &self,
-        run: &Result<Planned, RunFault>,
-        instance: &Recorded<'_, R>,
-        errors: &mut Counted<E>,
-    )
-        ensures { SaysLine E.contents self.now.telling.explain errors.old errors.new [] }
-    {
-        if let Some(told) = Told::of_instance(instance) {
-            let explanation = match run {
-                Ok(_) => explain::solved(self.alloc, self.request, &told.instance),
-                Err(fault) => told.refused(self.alloc, fault, self.request),
-            };
-            tell_behind(self.telling, explanation, errors);
-        }
     }
 
     /// Says what else there is for a problem that has no solver.

@@ -2,8 +2,7 @@
 ghost use Rattle.std.specs.Prelude.{◌≡◌, ◌⊎◌, [], IfOk};
 ghost use Rattle.tf_command.specs.Wrote.{Wrote};
 ghost use Rattle.tf_command.specs.Formatted.{formatted, said_in, memory_line, device_line};
-ghost use Rattle.tf_command.specs.Formatted.{IsWritten, IsCutOff, EndsKept};
-ghost use Rattle.tf_command.specs.Formatted.{HasPrinted};
+ghost use Rattle.tf_command.specs.Formatted.{IsWritten, IsCutOff, EndsKept, HasPrinted};
 ghost use Rattle.tf_text.specs.Counted.{inner_of, use_of};
 
 use crate::console::Console;

@@ -5,6 +5,7 @@
 mod bounding;
 pub mod commands;
 pub mod console;
+pub mod ending;
 mod explained;
 pub mod formatted;
 pub mod gathered;

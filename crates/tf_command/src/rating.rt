@@ -14,10 +14,11 @@ ghost use Rattle.tf_text.specs.Counted.{use_of};
 use crate::bounding::orders_over;
 use crate::commands::{open, open_both};
 use crate::console::Console;
+use crate::ending::end_run;
 use crate::explained::{Ended, Rated};
 use crate::reading::text_named;
 use crate::recorded::{MOST_BESIDE, MOST_KEPT, Recorded, room};
-use crate::report::{end_rating, report_bound, say_memory};
+use crate::report::{report_bound, say_memory};
 use crate::source::Sources;
 use std::alloc::Global;
 use std::io::{Read, Write};
@@ -413,7 +414,7 @@ fn rate<R: Read, S: Read, W: Write, E: Write>(
     let explain = options.telling.explain;
     let measuring = Measuring { aids, others };
     let run = orders_over(console, explain, asked, measuring, instance, orders);
-    let status = end_rating(&run, &mut console.errors);
+    let status = end_run(&run, &mut console.errors);
     let ended = Ended {
         alloc,
         telling: options.telling,

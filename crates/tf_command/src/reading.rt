@@ -27,7 +27,8 @@ pub fn text_named<S: Sources, W: Write, E: Write>(
 ) -> Result<Vec<u8>, u8>
     ensures text { IfOk result (λ text. IsTextOf (S.text_of sources.now name.now) text.items) }
     ensures kept { IfOk result (λ _. console.new ≡ console.old) }
-    ensures unread { IfErr result (IsUnread (S.text_of sources.now) (use_of W.contents console.old.writer console.new.writer)
+    ensures unread { IfErr result (IsUnread (S.text_of sources.now)
+        (use_of W.contents console.old.writer console.new.writer)
         (SaysLine E.contents explain console.old.errors console.new.errors)) }
 {
     let fault: RunFault = match sources.open(name) {

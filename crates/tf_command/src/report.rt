@@ -9,12 +9,8 @@ ghost use Rattle.tf_command.specs.FaultLine.{no_table_line, read_fault_words, re
 ghost use Rattle.tf_command.specs.FaultLine.{refused_line};
 ghost use Rattle.tf_command.specs.Said.{said_words};
 ghost use Rattle.tf_command.specs.Wrote.{Wrote};
-ghost use Rattle.tf_command.specs.Statuses.{status_of, status_of_check, status_of_no_table};
-ghost use Rattle.tf_command.specs.Statuses.{status_of_standing};
-ghost use Rattle.tf_command.specs.Ending.{line_of, status_of_run, status_of_checking};
-ghost use Rattle.tf_command.specs.Ending.{status_of_evaluating, status_of_rating};
+ghost use Rattle.tf_command.specs.Statuses.{status_of, status_of_no_table};
 ghost use Rattle.tf_command.specs.Ending.{line_of_picturing, status_of_picturing};
-ghost use Rattle.tf_command.specs.Planning.{status_of_plan};
 
 use crate::gathered::{Gathered, send};
 use itoa::Buffer;
@@ -24,12 +20,8 @@ use tf_assess::bound_read::BoundReadFault;
 use tf_bound_text::fault::BoundTextFault;
 use tf_dated::run_dated::Pictured;
 use tf_engine::fault::RunFault;
-use tf_engine::run_check::Checked;
-use tf_evaluate::evaluation::Standing;
 use tf_model::ids::JobId;
 use tf_model::prepare::{Field, Refusal};
-use tf_orders::run_orders::OrdersRated;
-use tf_planning::writing::Planned;
 use tf_random::run_random::RandomFault;
 use tf_read::fault::ReadFault;
 use tf_schedule::schedule::PieceFault;
@@ -82,97 +74,8 @@ pub fn report_bound<W: Write>(fault: &BoundReadFault, writer: &mut Counted<W>) -
     }
 }
 
-/// The exit status of a check that said its verdict.
-pub fn status_of_check(checked: &Checked) -> u8
-    ensures { result ≡ status_of_check checked.now }
-{
-    match checked {
-        Checked::Accepted => 0,
-        Checked::OtherTask | Checked::Rejected(_) => 1,
-    }
-}
-
-/// The exit status of an evaluation that was written.
-pub fn status_of_standing(standing: &Standing) -> u8
-    ensures { result ≡ status_of_standing standing.now }
-{
-    match standing {
-        Standing::Best => 0,
-        Standing::Unfit(_) => 1,
-        Standing::Beaten | Standing::Unproved => 6,
-    }
-}
-
-/// Ends a run that wrote an answer or a drawing, or none: reports why, and answers the exit status.
-pub fn end_run<A: Allocator, W: Write>(run: &Result<(), RunFault<A>>, writer: &mut Counted<W>) -> u8
-    ensures status { result ≡ status_of_run run.now }
-    ensures line { Wrote W.contents writer.old writer.new (line_of run.now) }
-{
-    match run {
-        Ok(()) => 0,
-        Err(fault) => report(fault, writer),
-    }
-}
-
-/// Ends a check in the same way.
-pub fn end_check<A: Allocator, W: Write>(
-    run: &Result<Checked, RunFault<A>>,
-    writer: &mut Counted<W>,
-) -> u8
-    ensures status { result ≡ status_of_checking run.now }
-    ensures line { Wrote W.contents writer.old writer.new (line_of run.now) }
-{
-    match run {
-        Ok(checked) => status_of_check(checked),
-        Err(fault) => report(fault, writer),
-    }
-}
-
-/// Ends a plan in the same way.
-pub fn end_plan<A: Allocator, W: Write>(
-    run: &Result<Planned, RunFault<A>>,
-    writer: &mut Counted<W>,
-) -> u8
-    ensures status { result ≡ status_of_plan run.now }
-    ensures line { Wrote W.contents writer.old writer.new (line_of run.now) }
-{
-    match run {
-        Ok(Planned::Optimal) => 0,
-        Ok(Planned::Open) => 6,
-        Err(fault) => report(fault, writer),
-    }
-}
-
-/// Ends an evaluation in the same way.
-pub fn end_evaluation<A: Allocator, W: Write>(
-    run: &Result<Standing, RunFault<A>>,
-    writer: &mut Counted<W>,
-) -> u8
-    ensures status { result ≡ status_of_evaluating run.now }
-    ensures line { Wrote W.contents writer.old writer.new (line_of run.now) }
-{
-    match run {
-        Ok(standing) => status_of_standing(standing),
-        Err(fault) => report(fault, writer),
-    }
-}
-
-/// Ends a run over orders in the same way.
-pub fn end_rating<A: Allocator, W: Write>(
-    run: &Result<OrdersRated, RunFault<A>>,
-    writer: &mut Counted<W>,
-) -> u8
-    ensures status { result ≡ status_of_rating run.now }
-    ensures line { Wrote W.contents writer.old writer.new (line_of run.now) }
-{
-    match run {
-        Ok(OrdersRated::Single(standing)) => status_of_standing(standing),
-        Ok(OrdersRated::Lines) => 0,
-        Err(fault) => report(fault, writer),
-    }
-}
-
-/// Ends a picture with the dates of an instance in the same way.
+/// Ends a picture with the dates of an instance: says why it was not drawn, and gives the exit
+/// status.
 pub fn end_picture<A: Allocator, W: Write>(
     run: &Result<Pictured, RunFault<A>>,
     writer: &mut Counted<W>,

@@ -59,10 +59,10 @@ use Rattle.tf_asked.specs.declared.series.FileForm.TheVariants as files
 use Rattle.tf_asked.specs.declared.series.Series.{Series}
 use Rattle.tf_asked.specs.declared.series.Told.{Told}
 use Rattle.tf_asked.specs.declared.series.Told.TheVariants as kinds
-use Rattle.tf_command.specs.Ending.{EndsSolving, EndsBounding, EndsEvaluating, EndsRating, SaysLine, line_of, status_of_run, status_of_evaluating, status_of_rating}
+use Rattle.tf_command.specs.Ending.{Ends, EndsSolving, EndsBounding, EndsEvaluating, EndsRating, SaysLine, line_of, status_after}
 use Rattle.tf_command.specs.Formatted.{held}
 use Rattle.tf_command.specs.Performing.{EndsOver, EndsOverBoth, Performs, RatesAided, RatesOrders}
-use Rattle.tf_command.specs.Statuses.{status_by, status_of, status_of_standing}
+use Rattle.tf_command.specs.Statuses.{status_by, status_of, status_of_rated, status_of_standing, status_of_text}
 use Rattle.tf_command.specs.Unread.{Texts}
 use Rattle.tf_held.specs.Shops.{EndsCounted, asks_count, evaluated, is_uncounted_in, wants_count, whole_name}
 use Rattle.tf_held.specs.Texts.{BesideData, held_texts, named_beside}
@@ -478,92 +478,56 @@ done_plain texts work writer says status none (inr (options, is, wants, ends)) =
 
 module _ (jobs m : ℕ) (status : ℕ) (told : has_told status ≡ true) (writer : DeviceUse)
     (says : List ℕ → Type 0) where
+  -- a run gave something
+  abbrev Given : {X : Type 0} → (Result X (RunFault Global) → Type 0) → (X → ℕ) → Type 0
+  Given {X = X} IsAsked exit_status =
+      (x : X) × IsAsked (Ok x) × (status ≡ exit_status x) × says []
+
+  -- the run of a request for an instance of a weighted tardiness file
+  given : {X : Type 0} {exit_status : X → ℕ}
+      (IsAsked : FormData → Result X (RunFault Global) → Type 0) (form : FormData)
+      → form ≡ InWt jobs m → Ends (IsAsked form) exit_status says status
+      → Given (IsAsked (InWt jobs m)) exit_status
+  given {X = X} {exit_status = exit_status} IsAsked form is e = by e.run e.outcome e.ends e.said
+    where
+      by : (run : Result X (RunFault Global)) → IsAsked form run
+          → status ≡ status_after exit_status run → says (line_of run)
+          → Given (IsAsked (InWt jobs m)) exit_status
+      by (Ok x) outcome ends said =
+          (x, subst (λ f. IsAsked f (Ok x)) is outcome, ends, said)
+      by (Err fault) outcome ends said =
+          absurd (none_told fault (subst (λ n. has_told n ≡ true) ends told))
+
   module _ (options : Options) (layout : Layout) (form_is : form_asked options.form ≡ InWt jobs m) where
     abbrev request : FormData → RequestData
     request = asked options.problem.now options.machines layout jobs
 
-    told_solving : (reader : DeviceUse) → EndsSolving Global (requested options layout) reader writer
-        says status
-        → (u : Unit {0}) × IsOutcome {A = Global} (solve_run (request (InWt jobs m)) reader) writer (Ok u)
-        × (status ≡ 0) × says []
-    told_solving reader e = by e.run e.outcome e.ends e.said
-      where
-        by : (run : Result (Unit {0}) (RunFault Global)) → IsOutcome (solve_run (requested options layout) reader) writer run
-            → status ≡ status_of_run run → says (line_of run)
-            → (u : Unit {0}) × IsOutcome {A = Global} (solve_run (request (InWt jobs m)) reader) writer (Ok u)
-            × (status ≡ 0) × says []
-        by (Ok u) outcome ends said = (
-          u,
-          subst (λ f. IsOutcome {A = Global} (solve_run (request f) reader) writer (Ok u)) form_is outcome,
-          ends,
-          said,
-        )
-        by (Err fault) outcome ends said =
-            absurd (none_told fault (subst (λ n. has_told n ≡ true) ends told))
+    told_solving : (reader : DeviceUse)
+        → EndsSolving Global (requested options layout) reader writer says status
+        → Given (IsOutcome (solve_run (request (InWt jobs m)) reader) writer) status_of_text
+    told_solving reader =
+        given (λ f. IsOutcome (solve_run (request f) reader) writer) (form_asked options.form) form_is
 
-    told_bounding : (reader : DeviceUse) → EndsBounding Global (requested options layout) reader writer
-        says status
-        → (u : Unit {0}) × IsOutcome {A = Global} (bound_run Global (request (InWt jobs m)) reader) writer (Ok u)
-        × (status ≡ 0) × says []
-    told_bounding reader e = by e.run e.outcome e.ends e.said
-      where
-        by : (run : Result (Unit {0}) (RunFault Global))
-            → IsOutcome (bound_run Global (requested options layout) reader) writer run
-            → status ≡ status_of_run run → says (line_of run)
-            → (u : Unit {0}) × IsOutcome {A = Global} (bound_run Global (request (InWt jobs m)) reader) writer (Ok u)
-            × (status ≡ 0) × says []
-        by (Ok u) outcome ends said = (
-          u,
-          subst (λ f. IsOutcome {A = Global} (bound_run Global (request f) reader) writer (Ok u)) form_is outcome,
-          ends,
-          said,
-        )
-        by (Err fault) outcome ends said =
-            absurd (none_told fault (subst (λ n. has_told n ≡ true) ends told))
+    told_bounding : (reader : DeviceUse)
+        → EndsBounding Global (requested options layout) reader writer says status
+        → Given (IsOutcome (bound_run Global (request (InWt jobs m)) reader) writer) status_of_text
+    told_bounding reader =
+        given (λ f. IsOutcome (bound_run Global (request f) reader) writer)
+        (form_asked options.form) form_is
 
     told_rating : (detail : Detail) (reader other : DeviceUse)
         → EndsEvaluating Global detail (requested options layout) reader other writer says status
-        → (standing : Standing)
-        × IsRatingOf {A = Global} detail (request (InWt jobs m)) reader other writer (Ok standing)
-        × (status ≡ status_of_standing standing) × says []
-    told_rating detail reader other e = by e.run e.outcome e.ends e.said
-      where
-        by : (run : Result Standing (RunFault Global))
-            → IsRatingOf detail (requested options layout) reader other writer run
-            → status ≡ status_of_evaluating run → says (line_of run)
-            → (standing : Standing)
-            × IsRatingOf {A = Global} detail (request (InWt jobs m)) reader other writer (Ok standing)
-            × (status ≡ status_of_standing standing) × says []
-        by (Ok standing) outcome ends said = (
-          standing,
-          subst (λ f. IsRatingOf {A = Global} detail (request f) reader other writer (Ok standing)) form_is outcome,
-          ends,
-          said,
-        )
-        by (Err fault) outcome ends said =
-            absurd (none_told fault (subst (λ n. has_told n ≡ true) ends told))
+        → Given (IsRatingOf detail (request (InWt jobs m)) reader other writer) status_of_standing
+    told_rating detail reader other =
+        given (λ f. IsRatingOf detail (request f) reader other writer) (form_asked options.form) form_is
 
     told_orders : (form : OrderForm) (reader other : DeviceUse)
         → EndsRating Global form None (requested options layout) None reader other writer says status
-        → (rating : OrdersRated)
-        × IsOutcome {A = Global} (orders_run Global form None (request (InWt jobs m)) None reader other) writer (Ok rating)
-        × (status ≡ status_of_rating {A = Global} (Ok rating)) × says []
-    told_orders form reader other e = by e.run e.outcome e.ends e.said
-      where
-        by : (run : Result OrdersRated (RunFault Global))
-            → IsOutcome (orders_run Global form None (requested options layout) None reader other) writer run
-            → status ≡ status_of_rating run → says (line_of run)
-            → (rating : OrdersRated)
-            × IsOutcome {A = Global} (orders_run Global form None (request (InWt jobs m)) None reader other) writer (Ok rating)
-            × (status ≡ status_of_rating {A = Global} (Ok rating)) × says []
-        by (Ok rating) outcome ends said = (
-          rating,
-          subst (λ f. IsOutcome {A = Global} (orders_run Global form None (request f) None reader other) writer (Ok rating)) form_is outcome,
-          ends,
-          said,
-        )
-        by (Err fault) outcome ends said =
-            absurd (none_told fault (subst (λ n. has_told n ≡ true) ends told))
+        → Given (IsOutcome (orders_run Global form None (request (InWt jobs m)) None reader other) writer)
+        status_of_rated
+    told_orders form reader other =
+        given (λ f. IsOutcome (orders_run Global form None (request f) None reader other) writer)
+        (form_asked options.form) form_is
 
 -- ---- orders are rated beside no bound, by the objective of the problem alone
 

@@ -19,9 +19,10 @@ use tf_asked::options::{Drawing, Options};
 use tf_assess::run_rate::{RatingRequest, run_rate};
 use tf_bounding::run_bound::run_bound;
 use tf_command::commands::draw;
+use tf_command::ending::end_run;
 use tf_command::planning::plan_any;
 use tf_command::problems::table_in;
-use tf_command::report::{end_check, end_evaluation, end_plan, end_run, report, say_device};
+use tf_command::report::{report, say_device};
 use tf_engine::run_check::run_check;
 use tf_engine::run_solve::run_solve;
 use tf_evaluate::evaluation::Detail;
@@ -93,7 +94,7 @@ fn planned<A: Allocator + Copy>(
     let mut console = Console::new(alloc);
     let effort: Effort<Nobody> = Effort::untold(steps);
     let run = plan_any(alloc, &request, effort, &mut instance, &mut console.output);
-    let status = end_plan(&run, &mut console.errors);
+    let status = end_run(&run, &mut console.errors);
     console.ended(status)
 }
 
@@ -156,7 +157,7 @@ fn checked<A: Allocator + Copy>(alloc: A, asked: &Asked<'_>) -> Result<Reply<A>,
     let mut console = Console::new(alloc);
     let output = &mut console.output;
     let run = run_check(alloc, &request, &mut instance, &mut answer, output);
-    let status = end_check(&run, &mut console.errors);
+    let status = end_run(&run, &mut console.errors);
     console.ended(status)
 }
 
@@ -202,7 +203,7 @@ fn evaluated<A: Allocator + Copy>(
         steps: None,
     };
     let run = run_rate(alloc, rating, &mut instance, &mut answer, output);
-    let status = end_evaluation(&run, &mut console.errors);
+    let status = end_run(&run, &mut console.errors);
     console.ended(status)
 }
 

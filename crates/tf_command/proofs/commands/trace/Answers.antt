@@ -1,24 +1,18 @@
-use Rattle.std.proofs.Common.{Err, Global, subst}
-use Rattle.std.proofs.KnownBytes.{Keeps-refl}
+use Rattle.std.proofs.Common.{Global, subst}
 use Rattle.tf_text.specs.Counted.{inner_of, use_of}
 use Rattle.tf_engine.specs.RequestData.{RequestData}
 use Rattle.tf_engine.specs.Runs.{IsOutcome}
 use Rattle.tf_trace.specs.RunTracing.{trace_run}
-use Rattle.tf_engine.specs.declared.fault.RunFault.TheVariants.{OutOfMemory}
 use Rattle.tf_engine.proofs.Unread.{text_for}
 use Rattle.tf_command.specs.Recorded.{bytes_left}
-use Rattle.tf_command.proofs.Saying.{says_alone, says_explained, says_more}
+use Rattle.tf_command.proofs.Saying.{says_explained, says_more}
+use Rattle.tf_command.proofs.Wanting.{idle, wants}
 use Rattle.tf_command.proofs.commands.trace.Goals as goal
 
 pub returns-in_default : goal.returns-in_default
 returns-in_default g c =
-    let (text, is) = text_for (bytes_left g.R.Read.remaining (inner_of c.args.instance.now)) in
-    record {
-      run = Err OutOfMemory;
-      outcome = record { texts = text; are_all = is; outcome = Keeps-refl _ };
-      ends = c.say_memory.ensures.status;
-      said = says_alone c.say_memory.ensures.line;
-    }
+    wants (idle _ _ _ (text_for (bytes_left g.R.Read.remaining (inner_of c.args.instance.now))))
+    c.say_memory.ensures.status c.say_memory.ensures.line
 
 pub returns : goal.returns
 returns g c = record {

@@ -12,7 +12,7 @@ pub returns : goal.returns
 returns g c =
     let console = c.new-console.result in
     let run = c.run_rate-run in
-    let ended = c.end_evaluation-status in
+    let ended = c.end_run-status in
     over_both console (record { output = run.new.writer; errors = ended.new.writer })
     c.new-console.ensures.output c.new-console.ensures.errors (line_of run.result)
     ended.ensures.line c.new-instance.result run.new.instance c.new-answer.result run.new.answer
