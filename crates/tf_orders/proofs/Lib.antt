@@ -2,6 +2,8 @@ mod Turns
 mod Distinct
 mod Added
 mod Operating
+mod Posed
+mod Scheduling
 mod Listing
 mod Reading
 mod Rated

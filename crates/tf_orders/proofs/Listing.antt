@@ -1,5 +1,5 @@
 -- Jobs that are listed one after another, and seen one after another.
-use Rattle.std.proofs.Common.{◌≡◌, ℕ, ◌+◌, ◌<◌, ◌≤◌, List, [], ◌∷◌, ◌++◌, length, get_or, take, refl, sym, ap, subst, ◌∙◌, ◌⊎◌, ◌-◌, arith, inl, inr}
+use Rattle.std.proofs.Common.{◌≡◌, ℕ, ◌+◌, ◌<◌, ◌≤◌, List, [], ◌∷◌, ◌++◌, length, get_or, take, sym, ap, subst, ◌∙◌, ◌⊎◌, ◌-◌, arith, inl, inr}
 use Rattle.std.specs.List.{All, fold, range_with_len}
 use Rattle.std.specs.List.Sorted.{IsPermutation}
 use Rattle.std.specs.Prelude.{slice_index}
@@ -10,15 +10,15 @@ use Rattle.std.proofs.lemmas.List.Elements.{All-push}
 use Rattle.std.proofs.lemmas.List.Sums.{fold_push}
 use Rattle.std.proofs.lemmas.List.FromFn.{get_or-range_with_len, length-range_with_len, map-range_with_len_more}
 use Rattle.std.proofs.lemmas.List.Sorted.{All-permutation, IsPermutation-map}
+use Rattle.tf_posed.specs.ProblemData.{ProblemData, IsProblemJob}
 use Rattle.tf_schedule.specs.declared.piece.Piece.{Piece}
 use Rattle.tf_schedule.specs.Piece.{machine_of}
 use Rattle.tf_schedule.specs.SemiActive.{machine_stop}
 use Rattle.tf_schedule.specs.Stops.{HasStopsBy}
 use Rattle.tf_sequencing.specs.declared.ruled_job.RuledJob.{RuledJob}
 use Rattle.tf_orders.specs.declared.order.Turn.{Turn}
-use Rattle.tf_orders.specs.Orders.{jobs_of}
 use Rattle.tf_orders.specs.Listed.{AreListed, IsFirstFree, IsFirstLeast}
-use Rattle.tf_orders.specs.Ruled.{AreFirstSeen, AreSeen, IsListedSchedule, numbers_of}
+use Rattle.tf_orders.specs.Ruled.{AreFirstSeen, AreSeen, IsListedSchedule, IsSeen, numbers_of}
 
 -- one turn more
 pub listed_more : (laid : List Turn → List Piece) (m : ℕ) (js : List ℕ) (turns : List Turn) (t : Turn)
@@ -63,40 +63,42 @@ pub numbers_more : (xs : List RuledJob) (i : ℕ) (d : RuledJob) → i < length 
 numbers_more xs i d lt =
     ap numbers_of (take_more xs i d lt) ∙ map_push (λ x. x.job) (take i xs) (get_or xs i d)
 
--- one job more
-pub seen_more : (IsSeen : RuledJob → Type 0) (xs ys : List RuledJob) (x : RuledJob) (n : ℕ)
-    → AreFirstSeen IsSeen n xs → ys ≡ xs ++ x ∷ [] → x.job ≡ n + 1 → IsSeen x
-    → AreFirstSeen IsSeen (n + 1) ys
-seen_more IsSeen xs ys x n first pushed is seen =
-    let next : 1 + n ≡ x.job = omega arith in
-    let more : range_with_len 1 (n + 1) ≡ range_with_len 1 n ++ x.job ∷ [] =
-    sym (map-id (range_with_len 1 (n + 1))) ∙ map-range_with_len_more (λ j. j) 1 n x.job next
-    ∙ ap (λ js. js ++ x.job ∷ []) (map-id (range_with_len 1 n)) in
-    record {
-      jobs = ap numbers_of pushed ∙ map_push (λ y. y.job) xs x
-          ∙ ap (λ js. js ++ x.job ∷ []) first.jobs ∙ sym more;
-      seen = subst (All IsSeen) (sym pushed) (All-push IsSeen xs x first.seen seen);
+module _ (k : ProblemData) where
+  -- one job more
+  pub seen_more : (xs ys : List RuledJob) (x : RuledJob) (n : ℕ) → AreFirstSeen k n xs
+      → ys ≡ xs ++ x ∷ [] → x.job ≡ n + 1 → IsSeen k x → AreFirstSeen k (n + 1) ys
+  seen_more xs ys x n first pushed is seen =
+      let next : 1 + n ≡ x.job = omega arith in
+      let more : range_with_len 1 (n + 1) ≡ range_with_len 1 n ++ x.job ∷ [] =
+      sym (map-id (range_with_len 1 (n + 1))) ∙ map-range_with_len_more (λ j. j) 1 n x.job next
+      ∙ ap (λ js. js ++ x.job ∷ []) (map-id (range_with_len 1 n)) in
+      record {
+        jobs = ap numbers_of pushed ∙ map_push (λ y. y.job) xs x
+            ∙ ap (λ js. js ++ x.job ∷ []) first.jobs ∙ sym more;
+        seen = subst (All (IsSeen k)) (sym pushed) (All-push (IsSeen k) xs x first.seen seen);
+      }
+
+  -- and in another order they are all seen, and each is one of the jobs
+  module _ (xs ys : List RuledJob) (first : AreFirstSeen k (length k.jobs) xs)
+      (moved : IsPermutation xs ys) where
+    pub all_seen : AreSeen k ys
+    all_seen = record {
+      all = subst (λ js. IsPermutation js (numbers_of ys)) first.jobs
+          (IsPermutation-map (λ x. x.job) xs ys moved);
+      seen = All-permutation (IsSeen k) xs ys moved first.seen;
     }
 
--- and in another order they are all seen, and each is one of the jobs
-pub all_seen : (IsSeen : RuledJob → Type 0) (n : ℕ) (xs ys : List RuledJob) → AreFirstSeen IsSeen n xs
-    → IsPermutation xs ys → AreSeen IsSeen n ys
-all_seen IsSeen n xs ys first moved = record {
-  all = subst (λ js. IsPermutation js (numbers_of ys)) first.jobs (IsPermutation-map (λ x. x.job) xs ys moved);
-  seen = All-permutation IsSeen xs ys moved first.seen;
-}
-
-pub all_jobs_there : (IsSeen : RuledJob → Type 0) (n : ℕ) (xs ys : List RuledJob)
-    → AreFirstSeen IsSeen n xs → IsPermutation xs ys → All (λ x. (1 ≤ x.job) × (x.job ≤ n)) ys
-all_jobs_there IsSeen n xs ys first moved =
-    All-permutation (λ x. (1 ≤ x.job) × (x.job ≤ n)) xs ys moved
-    (λ i d lt.
-    let long : length (numbers_of xs) ≡ n = ap length first.jobs ∙ length-range_with_len 1 n in
-    let within : i < n = omega (arith, lt, long, length-map xs (λ x. x.job)) in
-    let is : (get_or xs i d).job ≡ 1 + i =
-    sym (get_or-map (λ x. x.job) xs i d 0 lt) ∙ ap (λ js. get_or js i 0) first.jobs
-    ∙ get_or-range_with_len 1 n i 0 within in
-    (omega (arith, is), omega (arith, is, within)))
+    pub all_jobs_there : All (λ x. IsProblemJob k x.job) ys
+    all_jobs_there =
+        All-permutation (λ x. IsProblemJob k x.job) xs ys moved
+        (λ i d lt.
+        let n : ℕ = length k.jobs in
+        let long : length (numbers_of xs) ≡ n = ap length first.jobs ∙ length-range_with_len 1 n in
+        let within : i < n = omega (arith, lt, long, length-map xs (λ x. x.job)) in
+        let is : (get_or xs i d).job ≡ 1 + i =
+        sym (get_or-map (λ x. x.job) xs i d 0 lt) ∙ ap (λ js. get_or js i 0) first.jobs
+        ∙ get_or-range_with_len 1 n i 0 within in
+        (omega (arith, is), omega (arith, is, within)))
 
 -- ---- the machine that is free first
 

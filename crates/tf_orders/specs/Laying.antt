@@ -4,8 +4,7 @@
 use Rattle.std.specs.Prelude.{ℕ, zero, suc, ◌+◌, max, min, List, [], ◌∷◌, ◌++◌, slice_index, if◌then◌else◌}
 use Rattle.std.specs.List.{fold}
 use Rattle.tf_model.specs.Limit.{limit}
-use Rattle.tf_model.specs.ClassTable.{is_shop, is_shop_env}
-use Rattle.tf_model.specs.SchedulingTask.{SchedulingTask, job_data}
+use Rattle.tf_model.specs.ClassTable.{is_shop_env}
 use Rattle.tf_posed.specs.ProblemData.{ProblemData, problem_job, problem_release, is_job_shop}
 use Rattle.tf_schedule.specs.declared.piece.Piece.{Piece}
 use Rattle.tf_schedule.specs.Piece.{piece_of}
@@ -45,36 +44,19 @@ with_route ps j free times (a ∷ route) =
     with_route (with_operation ps j (a + 1) free (slice_index times a)) j
     (stop_on ps (a + 1) free (slice_index times a)) times route
 
--- ---- by a task of a class
-
--- the times of a job on its machines: one, or in a shop two
-abbrev pub times_of : SchedulingTask → ℕ → List ℕ
-times_of k j =
-    if is_shop k.class then (job_data k j).first ∷ (job_data k j).second ∷ []
-    else (job_data k j).first ∷ []
-
-abbrev pub with_turn_of : SchedulingTask → List Piece → Turn → List Piece
-with_turn_of k ps t = with_job ps t.job t.machine (job_data k t.job).release (times_of k t.job)
-
-abbrev pub schedule_of : SchedulingTask → List Turn → List Piece
-schedule_of k turns = fold (with_turn_of k) [] turns
-
--- the machines that have an order of their own
-abbrev pub orders_of : SchedulingTask → ℕ
-orders_of k = if is_shop k.class then 1 else k.machines
-
--- ---- by a task of any problem
+-- ---- by a task
 
 -- in a job shop along the job's route
-abbrev pub with_problem_turn : ProblemData → List Piece → Turn → List Piece
-with_problem_turn k ps t =
+abbrev pub with_turn_of : ProblemData → List Piece → Turn → List Piece
+with_turn_of k ps t =
     if is_job_shop k.problem.env
     then with_route ps t.job (problem_release k t.job) (problem_job k t.job).times
     (problem_job k t.job).route
     else with_job ps t.job t.machine (problem_release k t.job) (problem_job k t.job).times
 
-abbrev pub problem_schedule_of : ProblemData → List Turn → List Piece
-problem_schedule_of k turns = fold (with_problem_turn k) [] turns
+abbrev pub schedule_of : ProblemData → List Turn → List Piece
+schedule_of k turns = fold (with_turn_of k) [] turns
 
-abbrev pub problem_orders_of : ProblemData → ℕ
-problem_orders_of k = if is_shop_env k.problem.env then 1 else k.machines
+-- the machines that have an order of their own
+abbrev pub orders_of : ProblemData → ℕ
+orders_of k = if is_shop_env k.problem.env then 1 else k.machines

@@ -7,6 +7,7 @@ use Rattle.tf_engine.specs.Faults.{Refused}
 use Rattle.tf_engine.specs.Refusal.{problem_for, task_for}
 use Rattle.tf_model.specs.declared.problem.Problem.{Problem}
 use Rattle.tf_plan.specs.Order.{IsFeasible}
+use Rattle.tf_posed.specs.Agreement.{posed}
 use Rattle.tf_posed.specs.ProblemData.{ProblemData, is_job_shop}
 use Rattle.tf_bounding.specs.RunBounding.{problem_in, problem_task_for}
 use Rattle.tf_bound_text.specs.BoundSheetData.{BoundSheetData}
@@ -24,7 +25,7 @@ use Rattle.tf_orders.specs.declared.run_orders.OrderForm.{OrderForm}
 use Rattle.tf_orders.specs.declared.run_orders.OrderForm.TheVariants.{Single, Lines, Numbered, Ruled, Pieces}
 use Rattle.tf_orders.specs.declared.flaw.Flaw.{Flaw}
 use Rattle.tf_orders.specs.Orders.{IsFlaw, IsOrder, IsNoOrder}
-use Rattle.tf_orders.specs.Laying.{schedule_of, orders_of, problem_schedule_of, problem_orders_of}
+use Rattle.tf_orders.specs.Laying.{schedule_of, orders_of}
 use Rattle.tf_orders.specs.Operations.{IsOperationFlaw, IsOperationOrder, IsNoOperationOrder, operation_schedule_of}
 
 -- schedules are measured by the optimum: the problem of the line is of a class, and no bound is offered
@@ -60,27 +61,16 @@ abbrev pub others_of : {A : Type 0} → Measure A → Option PosedData
 others_of (Optimum problem task best steps others) = others
 others_of (Bound task weighed others) = others
 
--- the jobs of the task
-abbrev pub jobs_in : {A : Type 0} → Measure A → ℕ
-jobs_in (Optimum problem task best steps others) = length task.jobs
-jobs_in (Bound task weighed others) = length task.jobs
+-- the task, read as that of a problem
+abbrev pub posed_in : {A : Type 0} → Measure A → ProblemData
+posed_in (Optimum problem task best steps others) = posed task
+posed_in (Bound task weighed others) = task
 
--- its machines that have an order of their own
-abbrev pub orders_in : {A : Type 0} → Measure A → ℕ
-orders_in (Optimum problem task best steps others) = orders_of task
-orders_in (Bound task weighed others) = problem_orders_of task
-
--- the semi-active schedule
-abbrev pub schedule_in : {A : Type 0} → Measure A → List Turn → List Piece
-schedule_in (Optimum problem task best steps others) turns = schedule_of task turns
-schedule_in (Bound task weighed others) turns = problem_schedule_of task turns
-
--- the text says an order of the jobs 1 to n, and the pieces are its semi-active schedule
-pub record IsLaid (n g : ℕ) (laid : List Turn → List Piece) (text : List ℕ) (ps : List Piece) : Type 0
-  where
-    pub turns : List Turn
-    pub order : IsOrder n g text turns
-    pub pieces : ps ≡ laid turns
+-- the text says an order of the jobs, and the pieces are its semi-active schedule
+pub record IsLaid (k : ProblemData) (text : List ℕ) (ps : List Piece) : Type 0 where
+  pub turns : List Turn
+  pub order : IsOrder (length k.jobs) (orders_of k) text turns
+  pub pieces : ps ≡ schedule_of k turns
 
 -- it says an order of the operations of a job shop, and the pieces are its semi-active schedule
 pub record IsOperated (k : ProblemData) (text : List ℕ) (ps : List Piece) : Type 0 where
@@ -89,37 +79,27 @@ pub record IsOperated (k : ProblemData) (text : List ℕ) (ps : List Piece) : Ty
   pub pieces : ps ≡ operation_schedule_of k turns
 
 -- one of the two
-abbrev pub IsProblemScheduled : ProblemData → List ℕ → List Piece → Type 0
-IsProblemScheduled k text ps =
-    IsLaid (length k.jobs) (problem_orders_of k) (problem_schedule_of k) text ps
-    ⊎ IsOperated k text ps
+abbrev pub IsScheduledBy : ProblemData → List ℕ → List Piece → Type 0
+IsScheduledBy k text ps = IsLaid k text ps ⊎ IsOperated k text ps
 
 -- the text says neither
-pub record IsProblemUnordered (k : ProblemData) (text : List ℕ) : Type 0 where
-  pub jobs : IsNoOrder (length k.jobs) (problem_orders_of k) text
+pub record IsUnorderedBy (k : ProblemData) (text : List ℕ) : Type 0 where
+  pub jobs : IsNoOrder (length k.jobs) (orders_of k) text
   pub operations : IsNoOperationOrder k text
 
--- ---- by a measure
-
--- the text says an order, and the pieces are its semi-active schedule
-abbrev pub IsScheduled : {A : Type 0} → Measure A → List ℕ → List Piece → Type 0
-IsScheduled (Optimum problem task best steps others) text ps =
-    IsLaid (length task.jobs) (orders_of task) (schedule_of task) text ps
-IsScheduled (Bound task weighed others) text ps = IsProblemScheduled task text ps
-
--- it says none
-abbrev pub IsUnordered : {A : Type 0} → Measure A → List ℕ → Type 0
-IsUnordered (Optimum problem task best steps others) text =
-    IsNoOrder (length task.jobs) (orders_of task) text
-IsUnordered (Bound task weighed others) text = IsProblemUnordered task text
-
 -- this is wrong with it
-abbrev pub IsProblemFlaw : ProblemData → List ℕ → Flaw → Type 0
-IsProblemFlaw k text flaw =
+abbrev pub IsFlawBy : ProblemData → List ℕ → Flaw → Type 0
+IsFlawBy k text flaw =
     (IsTrue (is_job_shop k.problem.env) × IsOperationFlaw k text flaw)
-    ⊎ (IsFalse (is_job_shop k.problem.env) × IsFlaw (length k.jobs) (problem_orders_of k) text flaw)
+    ⊎ (IsFalse (is_job_shop k.problem.env) × IsFlaw (length k.jobs) (orders_of k) text flaw)
+
+-- ---- the same by a measure
+
+abbrev pub IsScheduled : {A : Type 0} → Measure A → List ℕ → List Piece → Type 0
+IsScheduled m text ps = IsScheduledBy (posed_in m) text ps
+
+abbrev pub IsUnordered : {A : Type 0} → Measure A → List ℕ → Type 0
+IsUnordered m text = IsUnorderedBy (posed_in m) text
 
 abbrev pub IsFlawOf : {A : Type 0} → Measure A → List ℕ → Flaw → Type 0
-IsFlawOf (Optimum problem task best steps others) text flaw =
-    IsFlaw (length task.jobs) (orders_of task) text flaw
-IsFlawOf (Bound task weighed others) text flaw = IsProblemFlaw task text flaw
+IsFlawOf m text flaw = IsFlawBy (posed_in m) text flaw

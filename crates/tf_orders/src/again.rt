@@ -3,14 +3,13 @@ ghost use Rattle.std.specs.Prelude.{◌≤◌, length};
 ghost use Rattle.tf_model.specs.Limit.{most_bytes};
 
 use crate::case_read::{OrderCase, Posed, order_case_read};
+use crate::ordered::Ordered;
 use crate::pieces::pieces_in;
-use crate::ruled::{ruled_of, ruled_problem};
+use crate::ruled::ruled_by;
 use crate::run_orders::{OrderForm, OrdersRequest};
-use crate::schedules::{problem_scheduled, task_scheduled};
+use crate::schedules::{laid, problem_scheduled};
 use std::alloc::Global;
-use tf_bound::task::ProblemTask;
 use tf_model::limit::MOST_BYTES;
-use tf_model::task::Task;
 use tf_schedule::piece::Piece;
 use tf_text::counted::Counted;
 
@@ -30,34 +29,26 @@ pub fn pieces_again(
     if text.len() > MOST_BYTES {
         return None;
     }
-    match posed {
-        Posed::Solved(asked_for) => task_pieces(alloc, &asked_for.task, asked.form, &text),
-        Posed::Unsolved(task) => problem_pieces(alloc, &task, asked.form, &text),
+    match (posed, asked.form) {
+        (Posed::Unsolved(task), OrderForm::Single(_)) => {
+            problem_scheduled(alloc, &task, &text).ok().flatten()
+        }
+        (Posed::Unsolved(task), form) => pieces_by(alloc, &task, form, &text),
+        (Posed::Solved(asked), form) => pieces_by(alloc, &asked.task, form, &text),
     }
 }
 
-fn task_pieces(alloc: Global, task: &Task, form: OrderForm, text: &[u8]) -> Option<Vec<Piece>>
-    requires { length text.now ≤ most_bytes }
-{
-    match form {
-        OrderForm::Single(_) => task_scheduled(alloc, task, text).ok().flatten(),
-        OrderForm::Ruled(rule, _) => ruled_of(alloc, task, rule).ok(),
-        OrderForm::Pieces(_) => pieces_in(alloc, text).ok(),
-        OrderForm::Lines { .. } | OrderForm::Numbered { .. } => None,
-    }
-}
-
-fn problem_pieces(
+fn pieces_by<T: Ordered>(
     alloc: Global,
-    task: &ProblemTask,
+    task: &T,
     form: OrderForm,
     text: &[u8],
 ) -> Option<Vec<Piece>>
     requires { length text.now ≤ most_bytes }
 {
     match form {
-        OrderForm::Single(_) => problem_scheduled(alloc, task, text).ok().flatten(),
-        OrderForm::Ruled(rule, _) => ruled_problem(alloc, task, rule).ok(),
+        OrderForm::Single(_) => laid(alloc, task, text).ok().flatten(),
+        OrderForm::Ruled(rule, _) => ruled_by(alloc, task, rule).ok(),
         OrderForm::Pieces(_) => pieces_in(alloc, text).ok(),
         OrderForm::Lines { .. } | OrderForm::Numbered { .. } => None,
     }

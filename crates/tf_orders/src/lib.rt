@@ -10,6 +10,7 @@ pub mod measure;
 mod numbering;
 mod operations;
 pub mod order;
+mod ordered;
 mod pieces;
 mod rating;
 mod ruled;

@@ -1,4 +1,4 @@
-use Rattle.std.proofs.Common.{subst, ap, take, ◌++◌, ◌∷◌, [], ◌∙◌, sym, length}
+use Rattle.std.proofs.Common.{subst, ap, take, ◌++◌, ◌∷◌, [], ◌∙◌, sym}
 use Rattle.tf_orders.specs.Laying.{with_turn_of, orders_of}
 use Rattle.tf_orders.specs.Listed.{IsFirstFree}
 use Rattle.tf_orders.specs.Ruled.{numbers_of}
@@ -7,7 +7,7 @@ use Rattle.tf_orders.proofs.ruled.listed_schedule.Goals as goal
 
 pub loop-seen-preserved : goal.loop-seen-preserved
 loop-seen-preserved g c =
-    let k = c.args.task.now in
+    let k = g.T.Asks.posed c.args.task.now in
     let i = c.loop-seen.seen-index in
     let item = c.seen-item.result in
     let done = numbers_of (take i c.args.jobs.now) in
@@ -16,7 +16,7 @@ loop-seen-preserved g c =
           (record { job = item.job; machine = c.first_free-machine.result }) c.loop-seen.laying.pieces _
           c.loop-seen.invariant.listed
           (subst (λ n. IsFirstFree c.loop-seen.laying.pieces n c.first_free-machine.result)
-          c.orders_of.ensures.value c.first_free-machine.ensures)
+          c.orders.ensures.value c.first_free-machine.ensures)
           c.in_ok-add_turn.ensures.pieces
           (numbers_more c.args.jobs.now i item c.loop-seen-test.true
           ∙ ap (λ x. done ++ x.job ∷ []) (sym c.seen-item.is));
