@@ -8,7 +8,7 @@ use Rattle.tf_text.specs.Counted.{DeviceUse, inner_of}
 use Rattle.tf_command.specs.Formatted.{Memory}
 use Rattle.tf_held.specs.AnswerTexts.{AreNext}
 use Rattle.tf_held.specs.Texts.{BesideData}
-use Rattle.tf_held.specs.Series.{AreEntries, IsAll, IsCutAt, IsEntry, IsPast, IsStopAt, IsStopped, IsUnwritten, Tells, WritesAll, WritesUntil, joined, line_for}
+use Rattle.tf_held.specs.Series.{AreEntries, IsAll, IsAtEnd, IsCutAt, IsEntry, IsStopAt, IsStopped, IsUnwritten, Tells, WritesAll, WritesUntil, joined, line_for}
 use Rattle.tf_held.specs.declared.series.Stop.{Stop}
 use Rattle.tf_held.specs.declared.series.Stop.TheVariants as stops
 use Rattle.tf_held.proofs.Told.{no_last}
@@ -97,11 +97,11 @@ entry_of series instance beside number kept text tells is = record {
   is = ap (line_for series number) is;
 }
 
-reached : (series : Series) (instance : List ℕ) (rest : BesideData) (last : Option ℕ) (next : ℕ)
+reached : (series : Series) (instance : List ℕ) (last : Option ℕ) (next : ℕ)
     → next ≡ max series.span.first (unwrap_or last 4294967295 + 1)
-    → IsAll series instance rest last next
-reached series instance rest (Some last) next is = is
-reached series instance rest None next is = inl is
+    → IsAll series instance last next
+reached series instance (Some last) next is = is
+reached series instance None next is = inl is
 
 -- all lines are written
 pub finished : (series : Series) (instance : List ℕ) (texts rest : BesideData) (steps : ℕ) (writer : DeviceUse)
@@ -112,35 +112,31 @@ finished series instance texts rest steps writer done at = record {
   lines = done.lines;
   rest = rest;
   entries = done.entries;
-  all = reached series instance rest series.span.last (series.span.first + length done.lines)
+  all = reached series instance series.span.last (series.span.first + length done.lines)
       (let count = done.count in omega arith);
   written = done.written;
 }
 
-over : (series : Series) (instance : List ℕ) (rest beside after : BesideData) (number : ℕ) (last : Option ℕ)
-    → last ≡ None → AreNext series.told rest beside after → series.span.first < number
-    → IsPast series instance beside number → IsAll series instance rest last number
-over series instance rest beside after number None none next later untold =
-    inr (later, (beside, after, next, untold))
-over series instance rest beside after number (Some last) none next later untold =
-    absurd (no_last last none)
+over : (series : Series) (instance : List ℕ) (number : ℕ) (last : Option ℕ) → last ≡ None
+    → IsAtEnd series instance number → IsAll series instance last number
+over series instance number None none ended = inr ended
+over series instance number (Some last) none ended = absurd (no_last last none)
 
 -- the file has no more instances
-pub come_to_end : (series : Series) (instance : List ℕ) (texts rest beside after : BesideData)
-    (steps number : ℕ)
-    (writer : DeviceUse) → Progress series instance texts rest steps writer.before writer.after
-    → number ≡ series.span.first + steps → AreNext series.told rest beside after
-    → Tells series instance beside number None → WritesAll series instance texts writer
-come_to_end series instance texts rest beside after steps number writer done at next (none, later, untold) =
-    record {
-      lines = done.lines;
-      rest = rest;
-      entries = done.entries;
-      all = subst (λ (n : ℕ). IsAll series instance rest series.span.last n)
-          (here_is series.span.first number steps (length done.lines) at done.count)
-          (over series instance rest beside after number series.span.last none next later untold);
-      written = done.written;
-    }
+pub come_to_end : (series : Series) (instance : List ℕ) (texts rest : BesideData)
+    (steps number : ℕ) (writer : DeviceUse)
+    → Progress series instance texts rest steps writer.before writer.after
+    → number ≡ series.span.first + steps → IsAtEnd series instance number
+    → WritesAll series instance texts writer
+come_to_end series instance texts rest steps number writer done at ended = record {
+  lines = done.lines;
+  rest = rest;
+  entries = done.entries;
+  all = subst (λ (n : ℕ). IsAll series instance series.span.last n)
+      (here_is series.span.first number steps (length done.lines) at done.count)
+      (over series instance number series.span.last ended.to_end ended);
+  written = done.written;
+}
 
 is_asked : (last : Option ℕ) (first steps : ℕ) → steps < unwrap_or last 4294967295 + 1 - first
     → IfSome last (λ last. first + steps ≤ last)

@@ -1,26 +1,19 @@
 -- What a command wrote in memory.
-use Rattle.std.proofs.Common.{◌≡◌, ℕ, ◌<◌, ltb, Bool, true, false, not, is_some, List, [], Option, None, Some, Result, Err, IsErr, is_err, Global, refl, sym, ap, ◌∙◌, subst}
-use Rattle.std.specs.Borrow.{Bor}
-use Rattle.std.specs.Option.{option_map}
-use Rattle.std.specs.Str.{bytes_eq}
-use Rattle.std.proofs.lemmas.Bool.{ltb-true, true≢false}
-use Rattle.std.proofs.lemmas.Slice.Eq.{bytes_eq-Decides}
-use Rattle.tf_model.proofs.Prepared.{none_mapped}
+use Rattle.std.proofs.Common.{◌≡◌, ◌↔◌, ℕ, ◌<◌, Bool, true, false, is_some, List, [], Option, None, Some, Result, Ok, Err, IfOk, IsErr, IsTrue, is_err, Global, refl, sym, ap, subst}
+use Rattle.std.proofs.lemmas.Bool.{true≢false}
 use Rattle.tf_text.specs.Counted.{inner_of, has_failed, use_of}
 use Rattle.tf_engine.specs.Faults.{Refused, is_refusal, stop_of}
 use Rattle.tf_engine.specs.Parts.{StopsReading}
 use Rattle.tf_engine.specs.declared.fault.RunFault.{RunFault}
 use Rattle.tf_engine.specs.declared.fault.RunFault.TheVariants.{Notation, Text, Task, Cycle, Answer, Pieces, Device, OutOfMemory}
 use Rattle.tf_asked.specs.declared.options.Work.{Work as Asking}
-use Rattle.tf_asked.specs.declared.aids.Aids.{Aids}
 use Rattle.tf_asked.specs.declared.series.Series.{Series}
-use Rattle.tf_asked.specs.declared.series.Told.{Told}
 use Rattle.tf_asked.specs.declared.series.Told.TheVariants as kinds
 use Rattle.tf_command.specs.Ending.{SaysLine}
 use Rattle.tf_command.specs.Formatted.{Memory, held}
 use Rattle.tf_held.specs.Shops.{EndsCounted}
 use Rattle.tf_held.specs.Texts.{BesideData, held_texts}
-use Rattle.tf_held.specs.Series.{EndsUntold, IsPast, IsWorkFor, RunsFor, bound_of, has_told, no_instance, plain, without_bound}
+use Rattle.tf_held.specs.Series.{EndsUntold, IsAtEnd, IsPast, IsWorkFor, RunsFor, bound_of, has_told}
 
 -- the work of an instance was done over texts, of which the first has the name of the file
 pub ran : (series : Series) (named instance : List ℕ) (bound : Option (List ℕ))
@@ -66,57 +59,23 @@ untold series instance beside number status output errors said runs none is = re
   untold = none;
 }
 
--- it said that there is no instance
-pub said_none : (bytes errors : List ℕ) → bytes ≡ errors → bytes_eq bytes no_instance ≡ true
-    → no_instance ≡ errors
-said_none bytes errors is same = sym ((bytes_eq-Decides bytes no_instance).0 same) ∙ is
-
-pub none_there : {X : Type 0} (last : Option X) (flag : Bool) → is_some last ≡ not flag → flag ≡ true → last ≡ None
-none_there None flag is on = refl
-none_there (Some last) flag is on = absurd (true≢false (is ∙ ap not on))
+pub none_there : {X : Type 0} (last : Option X) → is_some last ≡ false → last ≡ None
+none_there None none = refl
+none_there (Some last) none = absurd (true≢false none)
 
 pub no_last : (last : ℕ) → Some last ≡ None → ⊥
 no_last last e = true≢false (ap is_some e)
 
--- a test that held
-pub later : (a b : ℕ) (flag : Bool) → flag ≡ ltb a b → flag ≡ true → a < b
-later a b flag is on = ltb-true a b (sym is ∙ on)
-
--- ---- a series without its text of bounds
-
-pub unbound : (t : Told) → bound_of (plain t) ≡ None
-unbound kinds.Values = refl
-unbound (kinds.Bounds steps) = refl
-unbound (kinds.Answers name aids) = refl
-unbound (kinds.Orders name aids) = refl
-unbound (kinds.Ruled rule aids) = refl
-
-unaided_same : (aids : Aids) → option_map (λ (b : Bor (List ℕ)). b.now) aids.bound ≡ None
-    → record aids { bound = None } ≡ aids
-unaided_same aids none =
-    subst (λ (b : Option (Bor (List ℕ))). record aids { bound = b } ≡ aids)
-    (none_mapped (λ (b : Bor (List ℕ)). b.now) aids.bound none) refl
-
-plain_same : (t : Told) → bound_of t ≡ None → plain t ≡ t
-plain_same kinds.Values none = refl
-plain_same (kinds.Bounds steps) none = refl
-plain_same (kinds.Answers name aids) none = ap (kinds.Answers name) (unaided_same aids none)
-plain_same (kinds.Orders name aids) none = ap (kinds.Orders name) (unaided_same aids none)
-plain_same (kinds.Ruled rule aids) none = ap (kinds.Ruled rule) (unaided_same aids none)
-
--- where there is none, what was said of an instance is said without one
-pub past_same : (series : Series) (instance : List ℕ) (beside : BesideData) (number : ℕ)
-    (errors : List ℕ) → bound_of series.told ≡ None
-    → ((status : ℕ) × EndsUntold series instance beside number status errors)
-    → bytes_eq errors no_instance ≡ true → IsPast series instance beside number
-past_same series instance beside number errors none said same =
-    let is : errors ≡ no_instance = (bytes_eq-Decides errors no_instance).0 same in
-    let plainly : series ≡ without_bound series =
-    sym (ap (λ (t : Told). record series { told = t }) (plain_same series.told none)) in (
-      said.0,
-      subst (λ (s : Series). EndsUntold s instance beside number said.0 no_instance) plainly
-          (subst (λ (e : List ℕ). EndsUntold series instance beside number said.0 e) is said.1),
-    )
+-- where the file has no further instance, a series to its end has come to it
+pub at_end : {E : Type 0} (series : Series) (text : List ℕ) (number : ℕ) (r : Result Bool E)
+    → series.span.last ≡ None → series.span.first < number
+    → IfOk r (λ past. IsTrue past ↔ IsPast series.form text number)
+    → IfOk r (λ end. IsTrue end ↔ IsAtEnd series text number)
+at_end series text number (Ok past) none later is = (
+  λ on. record { to_end = none; later = later; past = is.0 on },
+  λ end. is.1 end.past,
+)
+at_end series text number (Err e) none later is = tt
 
 -- a refusal says why nothing is read
 pub refuses : {X : Type 0} (wanted : Result X Refused) (F : Type 0) (e : RunFault Global)

@@ -1,9 +1,11 @@
 -- What is told of each of several instances of a file.
-use Rattle.std.specs.Prelude.{◌≡◌, ◌⊎◌, ℕ, ◌+◌, ◌<◌, ◌≤◌, max, Bool, true, false, ◌||◌, ◌==◌, List, [], ◌∷◌, ◌++◌, length, take, Option, None, Some, option_map, IfSome, IsUtf8, codes, if◌then◌else◌}
+use Rattle.std.specs.Prelude.{◌≡◌, ◌⊎◌, ℕ, ◌+◌, ◌<◌, ◌≤◌, max, Bool, true, false, ◌||◌, ◌==◌, List, [], ◌∷◌, ◌++◌, length, take, Option, None, Some, Err, option_map, IfSome, IsUtf8, codes, if◌then◌else◌}
 use Rattle.std.specs.List.{flat_map}
 use Rattle.std.specs.Fmt.{decimal}
 use Rattle.std.specs.Borrow.{Bor}
 use Rattle.std.specs.Io.KnownBytes.{Appends, Keeps}
+use Rattle.tf_read.specs.WeightedTardiness.{weighted_tardiness}
+use Rattle.tf_read.specs.declared.fault.ReadFault.TheVariants.{NoInstance}
 use Rattle.tf_text.specs.AnswerText.{line_text}
 use Rattle.tf_text.specs.Counted.{AppendsPrefix, DeviceUse, inner_of, has_failed, use_of}
 use Rattle.tf_text.specs.Input.{IsTextOf}
@@ -165,24 +167,16 @@ pub record EndsUntold (series : Series) (instance : List ℕ) (beside : BesideDa
   pub runs : RunsFor series instance beside number status output errors
   pub untold : has_told status ≡ false
 
--- what is said where there is no such instance
-abbrev pub no_instance : List ℕ
-no_instance = codes "threefield: refused: NoInstance\n"
+-- the file has no instance of this number
+abbrev pub IsPast : FileForm → List ℕ → ℕ → Type 0
+IsPast (Wt jobs) text number = weighted_tardiness jobs number text ≡ Err NoInstance
+IsPast (Flow pair) text number = name_at text number ≡ []
 
--- the same series without its text of bounds
-abbrev pub plain : Told → Told
-plain (Answers name aids) = Answers name (record aids { bound = None })
-plain (Orders name aids) = Orders name (record aids { bound = None })
-plain (Ruled rule aids) = Ruled rule (record aids { bound = None })
-plain told = told
-
-abbrev pub without_bound : Series → Series
-without_bound series = record series { told = plain series.told }
-
--- the file has no instance of this number, which is said without a bound
-abbrev pub IsPast : Series → List ℕ → BesideData → ℕ → Type 0
-IsPast series instance beside number =
-    (status : ℕ) × EndsUntold (without_bound series) instance beside number status no_instance
+-- a series to the end of the file has come to it
+pub record IsAtEnd (series : Series) (instance : List ℕ) (number : ℕ) : Type 0 where
+  pub to_end : series.span.last ≡ None
+  pub later : series.span.first < number
+  pub past : IsPast series.form instance number
 
 -- what was kept tells of the instance of this number; or a series to the end of the file has come to
 -- that
@@ -191,9 +185,7 @@ Tells series instance beside number (Some kept) =
     (status : ℕ) × (errors : List ℕ)
     × RunsFor series instance beside number status (inner_of kept.writer).items errors
     × (has_told status ≡ true)
-Tells series instance beside number None =
-    (series.span.last ≡ None) × (series.span.first < number)
-    × IsPast series instance beside number
+Tells series instance beside number None = IsAtEnd series instance number
 
 -- the line that names an instance
 abbrev pub instance_line : ℕ → List ℕ
@@ -210,7 +202,7 @@ IsStopAt series instance beside number stops.Memory = Unit {0}
 IsStopAt series instance beside number stops.Unwritten = ⊥
 IsStopAt series instance beside number (stops.Ended status said) =
     (errors : List ℕ) × EndsUntold series instance beside number status errors
-    × (said.items ≡ said_for series number errors)
+    × (said.items ≡ said_for series number errors) × (¬ (IsAtEnd series instance number))
 
 -- why the line of an instance was not written
 abbrev pub IsUnwritten : DeviceUse → List ℕ → Stop → Type 0
@@ -236,13 +228,10 @@ joined texts = flat_map (λ text. text) texts
 
 -- the instances before this number are all that are asked for: the last one was named, or the file
 -- has no more
-abbrev pub IsAll : Series → List ℕ → BesideData → Option ℕ → ℕ → Type 0
-IsAll series instance rest (Some last) next = next ≡ max series.span.first (last + 1)
-IsAll series instance rest None next =
-    (next ≡ max series.span.first 4294967296)
-    ⊎ ((series.span.first < next)
-    × ((beside : BesideData) × (after : BesideData) × AreNext series.told rest beside after
-    × IsPast series instance beside next))
+abbrev pub IsAll : Series → List ℕ → Option ℕ → ℕ → Type 0
+IsAll series instance (Some last) next = next ≡ max series.span.first (last + 1)
+IsAll series instance None next =
+    (next ≡ max series.span.first 4294967296) ⊎ IsAtEnd series instance next
 
 -- a line of each was written, in their order
 pub record WritesAll (series : Series) (instance : List ℕ) (texts : BesideData) (writer : DeviceUse)
@@ -250,7 +239,7 @@ pub record WritesAll (series : Series) (instance : List ℕ) (texts : BesideData
   pub lines : List (List ℕ)
   pub rest : BesideData
   pub entries : AreEntries series instance series.span.first texts lines rest
-  pub all : IsAll series instance rest series.span.last (series.span.first + length lines)
+  pub all : IsAll series instance series.span.last (series.span.first + length lines)
   pub written : Appends writer.before writer.after (joined lines)
 
 -- ---- the first of them alone

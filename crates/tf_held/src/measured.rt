@@ -1,6 +1,5 @@
 //! An evaluation, with what the schedule comes to by each objective.
-ghost use Rattle.std.specs.Prelude.{◌≡◌, ◌⊎◌, codes, Ok, IfOk, IsErr};
-ghost use Rattle.std.specs.Prelude.{MatchOption};
+ghost use Rattle.std.specs.Prelude.{◌≡◌, ◌⊎◌, codes, Ok, IfOk, IsErr, MatchOption};
 ghost use Rattle.tf_text.specs.Counted.{use_of};
 ghost use Rattle.tf_command.specs.Ending.{SaysLine};
 ghost use Rattle.tf_command.specs.Wrote.{Wrote};
@@ -156,8 +155,8 @@ fn write_told<W: Write, E: Write>(console: &mut Console<W, E>, told: &Told) -> u
     }
 }
 
-/// What an evaluation over an instance and an answer in memory writes, with its measures. Both texts
-/// are given up before the schedule is measured.
+/// What an evaluation over an instance and an answer in memory writes, with its measures. Both
+/// texts are given up before the schedule is measured.
 fn told_of<S: Sources>(
     alloc: Global,
     sources: &S,
@@ -231,8 +230,8 @@ fn done_over<S: Sources>(
     })
 }
 
-/// What the answer's schedule comes to by each objective, where all texts are well formed. Each text
-/// is given up when it was read.
+/// What the answer's schedule comes to by each objective, where all texts are well formed. Each
+/// text is given up when it was read.
 fn answer_measures(
     alloc: Global,
     request: &Request,

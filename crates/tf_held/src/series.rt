@@ -1,7 +1,6 @@
 //! A line for each of several instances of a file.
-ghost use Rattle.std.specs.Str.{bytes_eq};
-ghost use Rattle.std.specs.Prelude.{◌≡◌, ◌++◌, ◌-◌, ℕ, List, true, false, IfOk, IfErr, IfSome, OnOk};
-ghost use Rattle.std.specs.Prelude.{MatchResult, None, if◌then◌else◌, option_map};
+ghost use Rattle.std.specs.Prelude.{◌≡◌, ◌↔◌, ◌++◌, ◌-◌, ℕ, List, true, false, IfOk, IfErr};
+ghost use Rattle.std.specs.Prelude.{IfSome, IsTrue, OnOk, MatchResult, if◌then◌else◌, option_map};
 ghost use Rattle.std.specs.Io.KnownBytes.{Appends};
 ghost use Rattle.tf_export.specs.Faults.{fault_json};
 ghost use Rattle.tf_asked.specs.Columns.{IsSized};
@@ -14,14 +13,12 @@ ghost use Rattle.tf_text.specs.Input.{IsTextOf};
 ghost use Rattle.tf_text.specs.declared.answer.layout.Layout.TheVariants.{One, Two};
 ghost use Rattle.tf_held.specs.declared.series.Stop.TheVariants.{Memory, Unwritten};
 ghost use Rattle.tf_held.specs.Texts.{beside_of, held_texts};
-ghost use Rattle.tf_held.specs.Series.{EndsSeries, IsNamed, IsStopAt, IsUnwritten};
-ghost use Rattle.tf_held.specs.Series.{WritesAll, WritesUntil, answers_of, bound_of, plain, without_bound};
-ghost use Rattle.tf_held.specs.Series.{EndsUntold, IsPast};
-ghost use Rattle.tf_held.specs.Series.{IsTextIn, IsWorkFor, AreOptionsFor, IsFormFor};
+ghost use Rattle.tf_held.specs.Series.{AreOptionsFor, EndsSeries, IsAtEnd, IsFormFor, IsNamed};
+ghost use Rattle.tf_held.specs.Series.{IsPast, IsStopAt, IsTextIn, IsUnreadFor, IsUnwritten};
+ghost use Rattle.tf_held.specs.Series.{IsWorkFor, RunsFor, SaidKept, Tells, WritesAll, WritesUntil};
+ghost use Rattle.tf_held.specs.Series.{answers_of, bound_of, document_of, has_told, line_for};
+ghost use Rattle.tf_held.specs.Series.{line_of_stop, said_for, status_of_stop};
 ghost use Rattle.tf_held.specs.AnswerTexts.{AreNext, IsNextFor};
-ghost use Rattle.tf_held.specs.Series.{IsUnreadFor, SaidKept, Tells, document_of, has_told};
-ghost use Rattle.tf_held.specs.Series.{line_for, line_of_stop, no_instance, said_for};
-ghost use Rattle.tf_held.specs.Series.{status_of_stop, RunsFor};
 ghost use Rattle.tf_held.specs.Shops.{EndsCounted};
 ghost use Rattle.tf_held.specs.Instances.{AreParts, HasInstance, IsBehind, IsNamedApart};
 ghost use Rattle.tf_asked.specs.Asking.{form_asked};
@@ -34,7 +31,6 @@ use crate::words_split::split_words;
 use itoa::Buffer;
 use std::alloc::Global;
 use std::io::Write;
-use tf_asked::aids::Aids;
 use tf_asked::options::{Assessing, Evaluating, FormOption, Options, OrderSource, Telling, Work};
 use tf_asked::series::{FileForm, Series, Told};
 use tf_command::console::Console;
@@ -48,10 +44,11 @@ use tf_export::documents::{Document, json};
 use tf_export::entry::push_entry;
 use tf_export::faults::fault_json;
 use tf_model::memory::OutOfMemory;
+use tf_read::fault::ReadFault;
+use tf_read::weighted_tardiness::read_wt;
 use tf_text::answer::layout::Layout;
 use tf_text::answer::writing::push_number_line;
 use tf_text::counted::{Counted, Device};
-use tf_words::word::is;
 
 /// What a command wrote in memory.
 type Kept = Console<Vec<u8>, Vec<u8>>;
@@ -323,7 +320,8 @@ fn write_entry<W: Write>(
     ensures written { OnOk result (Appends (W.contents (inner_of writer.old))
         (W.contents (inner_of writer.new)) (line_for series.now number text.now)) }
     ensures unwritten { IfErr result
-        (IsUnwritten (use_of W.contents writer.old writer.new) (line_for series.now number text.now)) }
+        (IsUnwritten (use_of W.contents writer.old writer.new)
+        (line_for series.now number text.now)) }
 {
     let line = line_for(alloc, series, number, text)?;
     writer.push_all(line.as_slice())?;
@@ -456,7 +454,8 @@ fn run_over(
     requires name { held.name.now ≡ series.now.input.now }
     requires bound { option_map (λ name. name.now) held.bound ≡ bound_of series.now.told }
     ensures { IfOk result (λ run. RunsFor series.now held.entry.instance.now
-        (beside_of held.entry.beside) number run.0 (inner_of run.1.writer).items (inner_of run.1.errors).items) }
+        (beside_of held.entry.beside) number run.0 (inner_of run.1.writer).items
+        (inner_of run.1.errors).items) }
 {
     let mut kept = memory(alloc);
     let status = work_over(&mut kept, series, &held, number);
@@ -484,74 +483,42 @@ fn told_of(
     if has_told(status) {
         return Ok(Some(kept));
     }
-    let errors = kept.errors.inner().as_slice();
-    let is_later = series.span.last.is_none() && number > series.span.first;
-    if is_later && is_past(alloc, series, held, number, errors)? {
+    if is_at_end(alloc, series, held.instance, number)? {
         return Ok(None);
     }
+    let errors = kept.errors.inner().as_slice();
     Err(Stop::Ended(status, said_for(alloc, series, number, errors)?))
 }
 
-/// Whether the file has no instance of this number, of which the command said this. Beside a bound,
-/// which may be refused before the instance is looked for, it is asked for again without it.
-fn is_past(
+/// Whether a series to the end of the file has come to it. Only want of memory is an error.
+fn is_at_end(
     alloc: Global,
     series: &Series<'_>,
-    held: Held<'_>,
+    text: &[u8],
     number: u32,
-    errors: &[u8],
 ) -> Result<bool, OutOfMemory>
-    requires name { held.name.now ≡ series.now.input.now }
-    requires bound { option_map (λ name. name.now) held.bound ≡ bound_of series.now.told }
-    requires said { (status : ℕ) × EndsUntold series.now held.instance.now (beside_of held.beside)
-        number status errors.now }
-    ensures { IfOk result (λ past. past ≡ true →
-        IsPast series.now held.entry.instance.now (beside_of held.entry.beside) number) }
+    ensures { IfOk result (λ end. IsTrue end ↔ IsAtEnd series.now text.now number) }
 {
-    if bound_of(&series.told).is_none() {
-        return Ok(has_no_instance(errors));
+    if series.span.last.is_some() {
+        return Ok(false);
     }
-    let plain = Held {
-        bound: None,
-        ..held
-    };
-    let (status, kept) = run_over(alloc, &without_bound(series), plain, number)?;
-    Ok(!has_told(status) && has_no_instance(kept.errors.inner().as_slice()))
+    if number <= series.span.first {
+        return Ok(false);
+    }
+    is_past(alloc, series.form, text, number)
 }
 
-/// The same series, without its text of bounds.
-fn without_bound<'a>(series: &Series<'a>) -> Series<'a>
-    ensures { result ≡ without_bound series.now }
+/// Whether the file has no instance of this number. Only want of memory is an error.
+fn is_past(alloc: Global, form: FileForm, text: &[u8], number: u32) -> Result<bool, OutOfMemory>
+    ensures { IfOk result (λ past. IsTrue past ↔ IsPast form text.now number) }
 {
-    Series {
-        problem: series.problem,
-        input: series.input,
-        machines: series.machines,
-        form: series.form,
-        span: series.span,
-        told: plain(series.told),
-        json: series.json,
-    }
-}
-
-/// The same without the text of bounds.
-fn plain(told: Told<'_>) -> Told<'_>
-    ensures { result ≡ plain told.entry }
-{
-    match told {
-        Told::Answers(name, aids) => Told::Answers(name, unaided(aids)),
-        Told::Orders(name, aids) => Told::Orders(name, unaided(aids)),
-        Told::Ruled(rule, aids) => Told::Ruled(rule, unaided(aids)),
-        other => other,
-    }
-}
-
-fn unaided(aids: Aids<'_>) -> Aids<'_>
-    ensures { result ≡ record aids.entry { bound = None } }
-{
-    Aids {
-        bound: None,
-        ..aids
+    match form {
+        FileForm::Wt { jobs } => match read_wt(alloc, text, jobs, number) {
+            Err(ReadFault::NoInstance) => Ok(true),
+            Err(ReadFault::OutOfMemory) => Err(OutOfMemory),
+            Ok(_) | Err(_) => Ok(false),
+        },
+        FileForm::Flow { .. } => Ok(name_at(text, number).is_empty()),
     }
 }
 
@@ -577,13 +544,6 @@ fn has_told(status: u8) -> bool
     ensures { result ≡ has_told status }
 {
     status == 0 || status == 1 || status == 6
-}
-
-/// Whether a command said that there is no such instance.
-fn has_no_instance(errors: &[u8]) -> bool
-    ensures { result ≡ bytes_eq errors.now no_instance }
-{
-    is(errors, b"threefield: refused: NoInstance\n")
 }
 
 /// The options that name the instance of this number alone. Faults are not explained.

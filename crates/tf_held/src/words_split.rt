@@ -21,7 +21,8 @@ fn word_end(text: &[u8]) -> Option<usize>
     }
 }
 
-/// The text up to the end of so many words, or all of it where it has fewer, and what is behind them.
+/// The text up to the end of so many words, or all of it where it has fewer, and what is behind
+/// them.
 pub(crate) fn split_words(text: &[u8], count: u64) -> (&[u8], &[u8])
     ensures front { words result.0.now ≡ take count (words text.now) }
     ensures rest { words result.1.now ≡ drop count (words text.now) }

@@ -61,10 +61,9 @@ returns g c =
 pub returns-in-None : goal.returns-in-None
 returns-in-None g c =
     come_to_end c.args.series.now c.args.instance.now (beside_of c.args.texts) (beside_of c.loop-step.rest)
-    (beside_of c.next_for.result.0) (beside_of c.next_for.result.1) c.loop-step.step _
+    c.loop-step.step _
     (use_of g.W.Write.contents c.args.writer.now c.loop-step.writer) c.loop-step.invariant.told
     (ap (λ n. n + c.loop-step.step) c.from-first.ensures)
-    c.next_for.ensures
     (rw c.in-None.is at c.in_ok-kept.ensures)
 
 pub returns-in_err-kept : goal.returns-in_err-kept
