@@ -23,7 +23,7 @@ use Rattle.tf_search.specs.Strongest.{IsFound}
 use Rattle.tf_text.specs.AnswerText.{SheetData}
 use Rattle.tf_evaluate.specs.declared.evaluation.ProblemFit.{ProblemFit}
 use Rattle.tf_evaluate.specs.declared.evaluation.ProblemFit.TheVariants.{Fits, NoSchedule, Misfit}
-use Rattle.tf_assess.specs.Assessing.{standing_by, assessed_of, counted_by, problem_outcomes, DrawsProblem, IsProblemJudged, HasProblemFit, HasProblemTable, HasAssessed}
+use Rattle.tf_assess.specs.Assessing.{shown_by, assessed_of, counted_by, problem_outcomes, DrawsProblem, IsProblemJudged, HasProblemFit, HasProblemTable, HasAssessed}
 
 -- from the schedule to the pieces that it sorts
 draws_problem : (k : ProblemData) (ps qs : List Piece) → IsPermutation ps qs → IsSchedule qs
@@ -82,7 +82,7 @@ no_outcomes k ps (Misfit misfit) (qs, kept, schedule, l, is, has) = absurd (cc)
 module _ (k : ProblemData) (sheet : SheetData) where
   standing_at : (value bound : ℤ) → HasProblemFit k sheet (Some (Fits (Some value)))
       → IsLowerBound k bound → (b : Bool) → (b ≡ true → value ≡ bound)
-      → HasAssessed k sheet (standing_by (cond b (Some value) None))
+      → HasAssessed k sheet (shown_by (cond b (Some value) None))
   standing_at value bound (is, (rows, draws, costs)) least true equal = (
     is,
     rows,

@@ -12,7 +12,7 @@ use Rattle.tf_bound.specs.declared.certificate.BoundCertificate.TheVariants.{Mac
 use Rattle.tf_search.specs.declared.strongest.Found.{Found}
 use Rattle.tf_search.specs.Strongest.{IsFound}
 use Rattle.tf_bound_text.specs.BoundSheetData.{Basis, BoundSheetData, basis_of, fault_by, IsValueBy}
-use Rattle.tf_assess.specs.declared.assessment.Offered.{Offered}
+use Rattle.tf_assess.specs.declared.offered.Offered.{Offered}
 use Rattle.tf_assess.specs.Assessing.{HasValue, IsJudgedFault, IsJudgedValue, IsOffer, IsOfferFor, IsUsed}
 
 -- the value of a certificate is that of what it names

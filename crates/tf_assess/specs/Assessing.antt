@@ -22,20 +22,18 @@ use Rattle.tf_text.specs.AnswerText.{SheetData}
 use Rattle.tf_evaluate.specs.declared.evaluation.JobOutcome.{JobOutcome}
 use Rattle.tf_evaluate.specs.declared.evaluation.Standing.{Standing}
 use Rattle.tf_evaluate.specs.declared.evaluation.Standing.TheVariants.{Best, Beaten, Unproved, Unfit}
-use Rattle.tf_evaluate.specs.declared.evaluation.WhyUnfit.TheVariants as reasons
-use Rattle.tf_evaluate.specs.EvaluationData.{value_in}
+use Rattle.tf_evaluate.specs.EvaluationData.{EvaluationData, standing_by}
 use Rattle.tf_evaluate.specs.Outcomes.{outcome_by}
 use Rattle.tf_posed.specs.ProblemCost.{IsLowerBound}
 use Rattle.tf_bound.specs.declared.certificate.BoundCertificate.{BoundCertificate}
 use Rattle.tf_bound.specs.Judged.{IsJudgedTask}
 use Rattle.tf_bound.specs.declared.fault.BoundFault.{BoundFault}
 use Rattle.tf_bound_text.specs.BoundSheetData.{Basis, BoundSheetData, IsValueBy, fault_by}
-use Rattle.tf_assess.specs.declared.assessment.Offered.{Offered}
-use Rattle.tf_assess.specs.declared.assessment.Offered.TheVariants.{Bounds, OtherTask, WrongValue, Faulty}
+use Rattle.tf_assess.specs.declared.offered.Offered.{Offered}
+use Rattle.tf_assess.specs.declared.offered.Offered.TheVariants.{Bounds, OtherTask, WrongValue, Faulty}
 use Rattle.tf_assess.specs.declared.offered.Weighed.{Weighed}
 use Rattle.tf_evaluate.specs.declared.evaluation.ProblemFit.{ProblemFit}
 use Rattle.tf_evaluate.specs.declared.evaluation.ProblemFit.TheVariants.{Fits, NoSchedule, Misfit}
-use Rattle.tf_assess.specs.declared.assessment.Assessment.{Assessment}
 
 -- ---- the numbers
 
@@ -44,16 +42,16 @@ abbrev pub best_in : Option ℤ → ℤ → Option ℤ
 best_in (Some value) bound = if int_eq value bound then Some value else None
 best_in None bound = None
 
-abbrev pub standing_by : Option ℤ → Standing
-standing_by (Some best) = Best
-standing_by None = Unproved
+abbrev pub shown_by : Option ℤ → Standing
+shown_by (Some best) = Best
+shown_by None = Unproved
 
--- a schedule that fits is best where it costs the bound; of another one, why it does not fit
+-- a schedule that fits is best where it costs the bound
+abbrev pub rated_by_bound : ℤ → Option ℤ → Standing
+rated_by_bound bound value = shown_by (best_in value bound)
+
 abbrev pub assessed_of : Option ProblemFit → ℤ → Standing
-assessed_of (Some (Fits value)) bound = standing_by (best_in value bound)
-assessed_of (Some (NoSchedule fault)) bound = Unfit (reasons.NoSchedule fault)
-assessed_of (Some (Misfit misfit)) bound = Unfit (reasons.Misfit misfit)
-assessed_of None bound = Unfit reasons.OtherTask
+assessed_of fit bound = standing_by (rated_by_bound bound) fit
 
 -- ---- what they mean
 
@@ -195,11 +193,12 @@ HasAssessed k sheet Beaten = ⊥
 HasAssessed k sheet (Unfit why) = Unit {0}
 
 pub record IsAssessment {A : Type 0} (k : ProblemData) (offer : Option BoundSheetData)
-    (sheet : SheetData) (a : Assessment A) : Type 0 where
-  pub fit : HasProblemFit k sheet a.fit
-  pub claimed : a.claimed ≡ Some sheet.answer.value
-  pub offered : HasOffered k offer a.offered
-  pub bound : IsFound k a.bound
-  pub counts : Counts a.offered a.bound
-  pub standing : HasAssessed k sheet (assessed_of a.fit a.bound.value)
-  pub outcomes : a.outcomes.items ≡ problem_outcomes k sheet.answer.pieces a.fit
+    (sheet : SheetData) (e : EvaluationData (Weighed A)) : Type 0 where
+  pub problem : e.problem ≡ k.problem
+  pub jobs : e.jobs ≡ length k.jobs
+  pub machines : e.machines ≡ k.machines
+  pub fit : HasProblemFit k sheet e.fit
+  pub claimed : e.claimed ≡ Some sheet.answer.value
+  pub weighed : IsWeighed k offer e.reference
+  pub standing : HasAssessed k sheet (assessed_of e.fit e.reference.bound.value)
+  pub outcomes : e.outcomes ≡ problem_outcomes k sheet.answer.pieces e.fit

@@ -1,19 +1,14 @@
--- The text of an assessment.
-use Rattle.std.specs.Prelude.{ℕ, ◌+◌, ℤ, ◌-ℤ◌, unsigned_abs, List, [], ◌∷◌, ◌++◌, map, codes, Option, None, Some}
-use Rattle.std.specs.List.{flat_map}
+-- What is written of the lower bound that a cost is held against.
+use Rattle.std.specs.Prelude.{◌+◌, List, ℕ, [], ◌∷◌, ◌++◌, codes, Option, None, Some}
 use Rattle.std.specs.Fmt.{decimal, signed_decimal}
-use Rattle.tf_notation.specs.Canonical.{canonical}
-use Rattle.tf_posed.specs.ProblemData.{ProblemData}
-use Rattle.tf_text.specs.AnswerText.{line_text}
 use Rattle.tf_bound.specs.declared.fault.BoundFault.{BoundFault}
 use Rattle.tf_bound.specs.declared.fault.BoundFault.TheVariants as faults
 use Rattle.tf_search.specs.declared.strongest.Found.{Found}
-use Rattle.tf_evaluate.specs.EvaluationData.{value_in}
-use Rattle.tf_evaluate.specs.EvaluationText.{fit_words, claimed_lines, number_lines, gap_lines, outcome_words}
+use Rattle.tf_evaluate.specs.EvaluationText.{ReferenceLines, number_lines, gap_lines}
 use Rattle.tf_bounding.specs.BoundText.{certificate_lines}
-use Rattle.tf_assess.specs.declared.assessment.Offered.{Offered}
-use Rattle.tf_assess.specs.declared.assessment.Offered.TheVariants.{Bounds, OtherTask, WrongValue, Faulty}
-use Rattle.tf_assess.specs.declared.assessment.Assessment.{Assessment}
+use Rattle.tf_assess.specs.declared.offered.Offered.{Offered}
+use Rattle.tf_assess.specs.declared.offered.Offered.TheVariants.{Bounds, OtherTask, WrongValue, Faulty}
+use Rattle.tf_assess.specs.declared.offered.Weighed.{Weighed}
 use Rattle.tf_assess.specs.Assessing.{best_in}
 
 -- why a certificate bounds nothing, by its name and its arguments; machines count from 1
@@ -49,27 +44,9 @@ abbrev pub bound_lines : {A : Type 0} → Found A → List (List (List ℕ))
 bound_lines found =
     (codes "bound" ∷ signed_decimal found.value ∷ []) ∷ certificate_lines found.certificate
 
--- how the pieces fit, what is claimed, the cost, the least cost where it is known, the gap, what was
--- offered and the bound
-abbrev pub judged_lines : {A : Type 0} → Assessment A → List (List (List ℕ))
-judged_lines a =
-    fit_words a.fit
-    ∷ (claimed_lines a.claimed
-    ++ (number_lines (codes "value") (value_in a.fit)
-    ++ (number_lines (codes "best") (best_in (value_in a.fit) a.bound.value)
-    ++ (gap_lines (value_in a.fit) a.bound.value
-    ++ (offered_lines a.offered ++ bound_lines a.bound)))))
-
--- all lines: a heading, what is asked, the judgement, and the jobs
-abbrev pub assessment_lines : {A : Type 0} → ProblemData → ℕ → Assessment A
-    → List (List (List ℕ))
-assessment_lines k jobs a =
-    (codes "evaluation" ∷ codes "1" ∷ [])
-    ∷ (codes "problem" ∷ canonical k.problem ∷ [])
-    ∷ (codes "jobs" ∷ decimal jobs ∷ [])
-    ∷ (codes "machines" ∷ decimal k.machines ∷ [])
-    ∷ (judged_lines a ++ (map outcome_words a.outcomes.items ++ (codes "end" ∷ []) ∷ []))
-
--- the text of an assessment of an answer to a task
-unfoldable pub assessment_text : {A : Type 0} → ProblemData → ℕ → Assessment A → List ℕ
-assessment_text k jobs a = flat_map line_text (assessment_lines k jobs a)
+-- the least cost where a cost shows it, by how much that is above the bound, what was offered, and the
+-- bound
+abbrev pub weighed_lines : {A : Type 0} → ReferenceLines (Weighed A)
+weighed_lines w value =
+    number_lines (codes "best") (best_in value w.bound.value)
+    ++ (gap_lines value w.bound.value ++ (offered_lines w.offered ++ bound_lines w.bound))

@@ -1,5 +1,5 @@
 -- What an assessment of an answer text leaves behind.
-use Rattle.std.specs.Prelude.{◌≡◌, ℕ, ◌⊎◌, true, List, length, Option, Result, Ok, IsOk, MatchResult}
+use Rattle.std.specs.Prelude.{◌≡◌, ℕ, ◌⊎◌, true, List, Option, Result, Ok, IsOk, MatchResult}
 use Rattle.tf_posed.specs.ProblemData.{ProblemData}
 use Rattle.tf_text.specs.declared.counted.Counted.{Counted}
 use Rattle.tf_text.specs.Counted.{DeviceUse, inner_of, use_of}
@@ -18,22 +18,24 @@ use Rattle.tf_bounding.specs.Feasible.{IsCyclicTask}
 use Rattle.tf_bounding.specs.RunBounding.{problem_in, problem_task_for, IsRefusedBound}
 use Rattle.tf_bound_text.specs.BoundSheetData.{BoundSheetData}
 use Rattle.tf_evaluate.specs.declared.evaluation.Standing.{Standing}
-use Rattle.tf_assess.specs.declared.assessment.Assessment.{Assessment}
+use Rattle.tf_evaluate.specs.EvaluationData.{EvaluationData}
+use Rattle.tf_evaluate.specs.EvaluationText.{evaluation_text}
+use Rattle.tf_assess.specs.declared.offered.Weighed.{Weighed}
 use Rattle.tf_assess.specs.declared.case_read.ProblemCase.{ProblemCase}
 use Rattle.tf_assess.specs.Assessing.{assessed_of, IsAssessment}
-use Rattle.tf_assess.specs.AssessmentText.{assessment_text}
+use Rattle.tf_assess.specs.AssessmentText.{weighed_lines}
 
 -- the request and the instance text mean a task, the answer text says a sheet, and this is how it
 -- stands to the task, which some timetable fits, beside the bound that is offered, if any is
 pub record IsAssessed {A : Type 0} (offer : Option BoundSheetData) (request : RequestData)
-    (instance answer out : List ℕ) (a : Assessment A) : Type 0 where
+    (instance answer out : List ℕ) (e : EvaluationData (Weighed A)) : Type 0 where
   pub task : ProblemData
   pub meant : problem_task_for request instance ≡ Ok task
   pub feasible : IsFeasible task
   pub sheet : SheetData
   pub said : answer_in answer ≡ Ok sheet
-  pub is : IsAssessment task offer sheet a
-  pub written : out ≡ assessment_text task (length task.jobs) a
+  pub is : IsAssessment task offer sheet e
+  pub written : out ≡ evaluation_text weighed_lines e
 
 -- the refusal is one of a bound, or there is a task and the answer text is at fault
 abbrev pub IsRefusedAssessment : RequestData → List ℕ → List ℕ → Refused → Type 0
@@ -59,9 +61,9 @@ abbrev pub assessment_run : Type 0 → Option BoundSheetData → RequestData →
     → Run (List ℕ × List ℕ) Standing
 assessment_run A offer request instance answer = record {
   Over = λ texts. IsTextOf instance.before texts.0 × IsTextOf answer.before texts.1;
-  Says = λ texts standing out. (a : Assessment A)
-      × IsAssessed offer request texts.0 texts.1 out a
-      × (standing ≡ assessed_of a.fit a.bound.value);
+  Says = λ texts standing out. (e : EvaluationData (Weighed A))
+      × IsAssessed offer request texts.0 texts.1 out e
+      × (standing ≡ assessed_of e.fit e.reference.bound.value);
   IsRefused = λ texts refused. IsRefusedAssessing request texts.0 texts.1 refused;
   ReaderFailed = λ texts. HasProblemReaderFailed request texts.0 instance answer;
 }

@@ -6,13 +6,12 @@ ghost use Rattle.tf_assess.specs.Assessing.{IsForProblem, IsOfTask, IsProblemJud
 ghost use Rattle.tf_assess.specs.Assessing.{HasProblemTable, IsSorting, problem_outcomes};
 ghost use Rattle.tf_schedule.specs.declared.piece.Piece.{Piece as PieceData};
 
-use crate::assessment::Assessment;
 use crate::offered::{Aids, Weighed, weigh};
 use crate::outcomes::outcomes;
 use std::alloc::Allocator;
 use tf_bound::task::ProblemTask;
 use tf_check::answer::Answer;
-use tf_evaluate::evaluation::{JobOutcome, ProblemFit};
+use tf_evaluate::evaluation::{Evaluation, JobOutcome, ProblemFit};
 use tf_fit::cost::cost_by;
 use tf_model::memory::OutOfMemory;
 use tf_model::problem::Problem;
@@ -33,12 +32,12 @@ pub fn assess<A: Allocator + Copy, B: Allocator, C: Allocator, P: Progress + Dro
     task: &ProblemTask<B>,
     sheet: Sheet<C>,
     aids: Aids<P, A>,
-) -> Result<Assessment<A>, OutOfMemory>
+) -> Result<Evaluation<Weighed<A>, A>, OutOfMemory>
     ensures { IfOk result (IsAssessment task.now aids.offered sheet) }
 {
     let Aids { effort, offered } = aids;
     let found = strongest(alloc, task, effort)?;
-    let Weighed { offered, bound } = weigh(alloc, task, offered, found)?;
+    let reference = weigh(alloc, task, offered, found)?;
     let is_its = is_for(task, &sheet.problem, sheet.jobs, sheet.machines);
     let Answer {
         pieces,
@@ -46,11 +45,13 @@ pub fn assess<A: Allocator + Copy, B: Allocator, C: Allocator, P: Progress + Dro
         ..
     } = sheet.into_answer();
     let JudgedSheet { fit, outcomes } = judge_sheet(alloc, task, is_its, pieces.into_vec())?;
-    Ok(Assessment {
+    Ok(Evaluation {
+        problem: task.problem(),
+        jobs: task.len() as u32,
+        machines: task.machines(),
         fit,
         claimed: Some(claimed),
-        offered,
-        bound,
+        reference,
         outcomes,
     })
 }

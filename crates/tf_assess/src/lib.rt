@@ -2,7 +2,6 @@
 #![tactic(auto)]
 
 pub mod assess;
-pub mod assessment;
 pub mod bound_read;
 mod case_read;
 pub mod measures;
@@ -11,4 +10,4 @@ mod outcomes;
 mod placed;
 pub mod run_assess;
 pub mod run_rate;
-pub mod writing;
+mod writing;

@@ -4,7 +4,6 @@ ghost use Rattle.tf_search.specs.Strongest.{IsFound};
 ghost use Rattle.tf_assess.specs.Assessing.{Counts, IsOffer, IsUsed, IsWeighed};
 
 use crate::assess::is_for;
-use crate::assessment::Offered;
 use std::alloc::{Allocator, Global};
 use tf_bound::certificate::BoundCertificate;
 use tf_bound::fault::BoundFault;
@@ -17,16 +16,30 @@ use tf_search::strongest::Found;
 /// What the search for a lower bound goes by.
 #[derive(Drop)]
 pub struct Aids<P, A: Allocator = Global> {
-    /// The steps of the search for prices, as many as usual where there is none, and to whom each is
-    /// shown.
+    /// The steps of the search for prices, as many as usual where there is none, and to whom each
+    /// is shown.
     pub effort: Effort<P>,
     /// What the text of a bound says, which is judged beside the bounds that are found.
     pub offered: Option<BoundSheet<A>>,
 }
 
-/// The stronger of what was found and what is offered.
+/// What an offered bound comes to on a task.
+#[derive(Clone, Copy, Debug, PartialEq, Eq)]
+pub enum Offered {
+    /// It is proved, and this is the value that it states.
+    Bounds(i128),
+    /// It is for another problem, or for other numbers of jobs or machines.
+    OtherTask,
+    /// Its certificate has this value, and it states another one.
+    WrongValue(i128),
+    /// Its certificate bounds nothing.
+    Faulty(BoundFault),
+}
+
+/// The strongest lower bound that was found or is offered, against which costs are held.
 #[derive(Drop)]
 pub struct Weighed<A: Allocator = Global> {
+    /// What the bound that was offered comes to; `None` where none was.
     pub offered: Option<Offered>,
     pub bound: Found<A>,
 }

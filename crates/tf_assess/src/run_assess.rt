@@ -10,7 +10,6 @@ ghost use Rattle.tf_assess.specs.RunAssessing.{assessment_run};
 use crate::assess::assess;
 use crate::case_read::{ProblemCase, problem_case_read};
 use crate::offered::Aids;
-use crate::writing::assessment_bytes;
 use std::alloc::{Allocator, Global};
 use std::io::{Read, Write};
 use tf_bounding::feasible::check_feasible;
@@ -18,6 +17,7 @@ use tf_engine::fault::RunFault;
 use tf_engine::output::{Output, write_output};
 use tf_engine::request::Request;
 use tf_evaluate::evaluation::Standing;
+use tf_evaluate::writing::evaluation_bytes;
 use tf_search::effort::Progress;
 use tf_text::counted::Counted;
 
@@ -35,7 +35,8 @@ pub struct AssessmentRequest<'a, P, A: Allocator = Global, B: Allocator = Global
 /// The refusals come in the order of [`tf_engine::run_check::run_check`]: notation, a problem that
 /// no kind of certificate bounds, reading the instance, its text, the rest of what makes no task,
 /// reading the answer and its first fault, a cycle of the task's arcs. After a refusal nothing was
-/// written, unless it is [`RunFault::Device`], after which a prefix of the assessment may have been.
+/// written, unless it is [`RunFault::Device`], after which a prefix of the assessment may have
+/// been.
 pub fn run_assess<
     A: Allocator + Copy,
     B: Allocator,
@@ -78,8 +79,8 @@ fn assessment_output<A: Allocator + Copy, B: Allocator, P: Progress + Drop, R: R
     let case = problem_case_read(alloc, request, instance, answer)?;
     let ProblemCase { task, sheet } = case;
     check_feasible(alloc, &task)?;
-    let assessment = assess(alloc, &task, sheet, aids)?;
-    let text = assessment_bytes(alloc, &task, &assessment)?;
-    let returned = assessment.standing();
+    let evaluation = assess(alloc, &task, sheet, aids)?;
+    let text = evaluation_bytes(alloc, &evaluation)?;
+    let returned = evaluation.standing();
     Ok(Output { text, returned })
 }

@@ -1,62 +1,63 @@
-//! Assessments, written.
-ghost use Rattle.std.specs.Prelude.{◌≡◌, [], ◌∷◌, ◌++◌, length, IfOk, OnOk};
+//! What is written of the lower bound that a cost is held against.
+ghost use Rattle.std.specs.Prelude.{◌≡◌, ◌++◌, OnOk};
 ghost use Rattle.std.specs.List.{flat_map, join_with_byte};
-ghost use Rattle.std.specs.Fmt.{decimal};
 ghost use Rattle.tf_text.specs.AnswerText.{line_text};
-ghost use Rattle.tf_assess.specs.AssessmentText.{certificate_fault_words, offered_words};
-ghost use Rattle.tf_assess.specs.AssessmentText.{offered_lines, bound_lines, judged_lines};
-ghost use Rattle.tf_assess.specs.AssessmentText.{assessment_text};
+ghost use Rattle.tf_assess.specs.AssessmentText.{certificate_fault_words, offered_lines};
+ghost use Rattle.tf_assess.specs.AssessmentText.{bound_lines};
 
-use crate::assessment::{Assessment, Offered};
+use crate::offered::{Offered, Weighed};
 use std::alloc::Allocator;
 use tf_bound::fault::BoundFault;
-use tf_bound::task::ProblemTask;
 use tf_bounding::writing::push_certificate;
-use tf_evaluate::writing::{
-    push_claimed, push_fit, push_gap, push_named, push_outcomes, push_some,
-};
+use tf_evaluate::evaluation::Standing;
+use tf_evaluate::reference::Reference;
+use tf_evaluate::writing::{push_gap, push_named, push_some};
 use tf_model::memory::OutOfMemory;
-use tf_notation::writing::notation_text;
 use tf_search::strongest::Found;
 use tf_text::answer::writing::{push_number, push_number_line};
 
-/// The text of an assessment of an answer to a task, each line ended by a line feed.
-pub fn assessment_bytes<A: Allocator + Copy, B: Allocator, M: Allocator>(
-    alloc: A,
-    task: &ProblemTask<B>,
-    assessment: &Assessment<M>,
-) -> Result<Vec<u8, A>, OutOfMemory>
-    ensures { IfOk result (λ text. text.items
-        ≡ assessment_text task.now (length task.now.jobs) assessment.now) }
-{
-    let notation = notation_text(alloc, &task.problem())?;
-    let mut text = Vec::from_slice(alloc, b"evaluation 1\nproblem ")?;
-    text.extend_from_slice(notation.as_bytes())?;
-    text.push(b'\n')?;
-    push_number_line(&mut text, b"jobs", task.len() as u64)?;
-    push_number_line(&mut text, b"machines", task.machines())?;
-    push_judged(&mut text, assessment)?;
-    push_outcomes(&mut text, assessment.outcomes.as_slice())?;
-    text.extend_from_slice(b"end\n")?;
-    Ok(text)
+impl<M: Allocator> Weighed<M> {
+    ghost use Rattle.std.specs.Prelude.{◌≡◌};
+    ghost use Rattle.tf_assess.specs.Assessing.{best_in};
+
+    // The least cost of a timetable that fits, where a schedule of this cost shows it: where it
+    // costs the bound.
+    fn best(&self, value: Option<i128>) -> Option<i128>
+        ensures { result ≡ best_in value self.now.bound.value }
+    {
+        match value {
+            Some(value) if value == self.bound.value => Some(value),
+            _ => None,
+        }
+    }
 }
 
-// How the pieces fit, and the numbers.
-fn push_judged<A: Allocator, M: Allocator>(
-    text: &mut Vec<u8, A>,
-    assessment: &Assessment<M>,
-) -> Result<(), OutOfMemory>
-    ensures { OnOk result (text.new.items
-        ≡ text.old.items ++ flat_map line_text (judged_lines assessment.now)) }
-{
-    push_fit(text, &assessment.fit)?;
-    push_claimed(text, assessment.claimed)?;
-    push_some(text, b"value", assessment.value())?;
-    push_some(text, b"best", assessment.best())?;
-    push_gap(text, assessment.value(), assessment.bound.value)?;
-    push_offered(text, &assessment.offered)?;
-    push_bound(text, &assessment.bound)?;
-    Ok(())
+impl<M: Allocator> Reference for Weighed<M> {
+    ghost use Rattle.tf_assess.specs.Assessing.{rated_by_bound};
+    ghost use Rattle.tf_assess.specs.AssessmentText.{weighed_lines};
+
+    ghost rated = { λ w value. rated_by_bound w.bound.value value };
+
+    ghost lines = { weighed_lines };
+
+    fn standing(&self, value: Option<i128>) -> Standing {
+        match self.best(value) {
+            Some(_) => Standing::Best,
+            None => Standing::Unproved,
+        }
+    }
+
+    fn push<A: Allocator>(
+        &self,
+        text: &mut Vec<u8, A>,
+        value: Option<i128>,
+    ) -> Result<(), OutOfMemory> {
+        push_some(text, b"best", self.best(value))?;
+        push_gap(text, value, self.bound.value)?;
+        push_offered(text, &self.offered)?;
+        push_bound(text, &self.bound)?;
+        Ok(())
+    }
 }
 
 // What an offered bound comes to, if one was offered.

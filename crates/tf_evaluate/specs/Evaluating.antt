@@ -22,7 +22,7 @@ use Rattle.tf_evaluate.specs.declared.evaluation.Standing.TheVariants.{Best, Bea
 use Rattle.tf_evaluate.specs.declared.evaluation.Detail.{Detail}
 use Rattle.tf_evaluate.specs.declared.evaluation.Detail.TheVariants.{WithArithmetic}
 use Rattle.tf_evaluate.specs.declared.step.Step.{Step}
-use Rattle.tf_evaluate.specs.EvaluationData.{EvaluationData, problem_fit, standing_of, gap}
+use Rattle.tf_evaluate.specs.EvaluationData.{EvaluationData, OptimumData, problem_fit, standing_of, gap}
 use Rattle.tf_evaluate.specs.Outcomes.{outcome_of}
 use Rattle.tf_evaluate.specs.Arithmetic.{arithmetic, last_result}
 
@@ -98,13 +98,13 @@ HasGap (Some (Fits (Some value))) best =
 HasGap _ best = Unit {0}
 
 pub record IsEvaluation (detail : Detail) (problem : Problem) (k : SchedulingTask)
-    (sheet : SheetData) (e : EvaluationData) : Type 0 where
+    (sheet : SheetData) (e : EvaluationData OptimumData) : Type 0 where
   pub problem_is : e.problem ≡ problem
   pub jobs : e.jobs ≡ length k.jobs
   pub machines : e.machines ≡ k.machines
   pub fit : HasFit k sheet e.fit
   pub claimed : e.claimed ≡ Some sheet.answer.value
-  pub best : IsLeastCost k e.best
-  pub bound : e.bound ≡ bound_for k sheet.answer.certificate e.fit
-  pub steps : e.steps ≡ steps_for detail e.bound k sheet.answer.certificate
+  pub best : IsLeastCost k e.reference.best
+  pub bound : e.reference.bound ≡ bound_for k sheet.answer.certificate e.fit
+  pub steps : e.reference.steps ≡ steps_for detail e.reference.bound k sheet.answer.certificate
   pub outcomes : e.outcomes ≡ outcomes_for k sheet.answer.pieces e.fit

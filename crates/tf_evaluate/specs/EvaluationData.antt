@@ -13,16 +13,21 @@ use Rattle.tf_evaluate.specs.declared.evaluation.WhyUnfit.TheVariants as reasons
 use Rattle.tf_evaluate.specs.declared.evaluation.JobOutcome.{JobOutcome}
 use Rattle.tf_evaluate.specs.declared.step.Step.{Step}
 
-pub record EvaluationData : Type 0 where
+-- R is what the cost is held against
+pub record EvaluationData (R : Type 0) : Type 0 where
   pub problem : Problem
   pub jobs : ℕ
   pub machines : ℕ
   pub fit : Option ProblemFit
   pub claimed : Option ℤ
+  pub reference : R
+  pub outcomes : List JobOutcome
+
+-- the least cost, and what the answer's certificate bounds, with its arithmetic
+pub record OptimumData : Type 0 where
   pub best : ℤ
   pub bound : Option (Result ℤ BoundFault)
   pub steps : List Step
-  pub outcomes : List JobOutcome
 
 -- how far a cost is from the least one
 abbrev pub gap : ℤ → ℤ → ℕ
@@ -39,11 +44,17 @@ abbrev pub value_in : Option ProblemFit → Option ℤ
 value_in (Some (Fits value)) = value
 value_in _ = None
 
--- a schedule that fits is best where it costs no more than the least cost; of another one, why it
--- does not fit
+-- what a schedule comes to: what its cost does if it fits, and else why it does not
+abbrev pub standing_by : (Option ℤ → Standing) → Option ProblemFit → Standing
+standing_by rated (Some (Fits value)) = rated value
+standing_by rated (Some (NoSchedule fault)) = Unfit (reasons.NoSchedule fault)
+standing_by rated (Some (Misfit misfit)) = Unfit (reasons.Misfit misfit)
+standing_by rated None = Unfit reasons.OtherTask
+
+-- it is best where it costs no more than the least cost
+abbrev pub rated_by_best : ℤ → Option ℤ → Standing
+rated_by_best best (Some value) = if int_le value best then Best else Beaten
+rated_by_best best None = Unproved
+
 abbrev pub standing_of : Option ProblemFit → ℤ → Standing
-standing_of (Some (Fits (Some value))) best = if int_le value best then Best else Beaten
-standing_of (Some (Fits None)) best = Unproved
-standing_of (Some (NoSchedule fault)) best = Unfit (reasons.NoSchedule fault)
-standing_of (Some (Misfit misfit)) best = Unfit (reasons.Misfit misfit)
-standing_of None best = Unfit reasons.OtherTask
+standing_of fit best = standing_by (rated_by_best best) fit

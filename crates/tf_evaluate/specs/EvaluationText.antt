@@ -14,7 +14,7 @@ use Rattle.tf_evaluate.specs.declared.evaluation.JobOutcome.{JobOutcome}
 use Rattle.tf_evaluate.specs.declared.step.Terms.{Terms}
 use Rattle.tf_evaluate.specs.declared.step.Terms.TheVariants.{Load, JobTime, ShopTimes, MachineWork, Smith, SetWork, LeastCost, Window, Split, GreatestFactor, Ranks}
 use Rattle.tf_evaluate.specs.declared.step.Step.{Step}
-use Rattle.tf_evaluate.specs.EvaluationData.{EvaluationData, gap, value_in}
+use Rattle.tf_evaluate.specs.EvaluationData.{EvaluationData, OptimumData, gap, value_in}
 
 -- a misfit by its name and its arguments
 abbrev pub problem_misfit_words : ProblemMisfit → List (List ℕ)
@@ -95,26 +95,34 @@ outcome_words o =
     codes "job" ∷ decimal o.job ∷ decimal o.start ∷ decimal o.completion ∷ signed_decimal o.price
     ∷ []
 
--- how the pieces fit, and the four numbers: what is claimed, the cost, the least cost with the gap
--- between the two, and what the certificate bounds
-abbrev pub judgement_lines : EvaluationData → List (List (List ℕ))
-judgement_lines e =
+-- the least cost, by how much a cost is above it, what the certificate bounds, and its arithmetic
+abbrev pub optimum_lines : OptimumData → Option ℤ → List (List (List ℕ))
+optimum_lines o value =
+    (codes "best" ∷ signed_decimal o.best ∷ [])
+    ∷ (gap_lines value o.best ++ (bound_lines o.bound ++ map step_words o.steps))
+
+-- the lines on what a cost is held against
+abbrev pub ReferenceLines : Type 0 → Type 0
+ReferenceLines R = R → Option ℤ → List (List (List ℕ))
+
+-- how the pieces fit, what is claimed, the cost, and what it is held against
+abbrev pub judgement_lines : {R : Type 0} → ReferenceLines R → EvaluationData R
+    → List (List (List ℕ))
+judgement_lines lines e =
     fit_words e.fit
     ∷ (claimed_lines e.claimed
-    ++ (number_lines (codes "value") (value_in e.fit)
-    ++ (codes "best" ∷ signed_decimal e.best ∷ [])
-    ∷ (gap_lines (value_in e.fit) e.best ++ bound_lines e.bound)))
+    ++ (number_lines (codes "value") (value_in e.fit) ++ lines e.reference (value_in e.fit)))
 
--- all lines: a heading, what is asked, the judgement, the certificate's arithmetic, and the jobs
-abbrev pub evaluation_lines : EvaluationData → List (List (List ℕ))
-evaluation_lines e =
+-- all lines: a heading, what is asked, the judgement, and the jobs
+abbrev pub evaluation_lines : {R : Type 0} → ReferenceLines R → EvaluationData R
+    → List (List (List ℕ))
+evaluation_lines lines e =
     (codes "evaluation" ∷ codes "1" ∷ [])
     ∷ (codes "problem" ∷ canonical e.problem ∷ [])
     ∷ (codes "jobs" ∷ decimal e.jobs ∷ [])
     ∷ (codes "machines" ∷ decimal e.machines ∷ [])
-    ∷ (judgement_lines e
-    ++ (map step_words e.steps ++ (map outcome_words e.outcomes ++ (codes "end" ∷ []) ∷ [])))
+    ∷ (judgement_lines lines e ++ (map outcome_words e.outcomes ++ (codes "end" ∷ []) ∷ []))
 
 -- the text of an evaluation
-unfoldable pub evaluation_text : EvaluationData → List ℕ
-evaluation_text e = flat_map line_text (evaluation_lines e)
+unfoldable pub evaluation_text : {R : Type 0} → ReferenceLines R → EvaluationData R → List ℕ
+evaluation_text lines e = flat_map line_text (evaluation_lines lines e)

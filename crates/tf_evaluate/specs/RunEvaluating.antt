@@ -14,14 +14,14 @@ use Rattle.tf_engine.specs.Headline.{IsCyclic}
 use Rattle.tf_engine.specs.Checking.{IsRefusedCheck, HasReaderFailed}
 use Rattle.tf_evaluate.specs.declared.evaluation.Standing.{Standing}
 use Rattle.tf_evaluate.specs.declared.evaluation.Detail.{Detail}
-use Rattle.tf_evaluate.specs.EvaluationData.{EvaluationData, standing_of}
+use Rattle.tf_evaluate.specs.EvaluationData.{EvaluationData, OptimumData, standing_of}
 use Rattle.tf_evaluate.specs.Evaluating.{IsEvaluation, HasStanding, HasGap, EndsInBound}
-use Rattle.tf_evaluate.specs.EvaluationText.{evaluation_text}
+use Rattle.tf_evaluate.specs.EvaluationText.{evaluation_text, optimum_lines}
 
 -- the request and the instance text mean a task, the answer text says a sheet, and this is its
 -- evaluation
 pub record IsEvaluated (detail : Detail) (request : RequestData) (instance answer : List ℕ)
-    (e : EvaluationData) : Type 0 where
+    (e : EvaluationData OptimumData) : Type 0 where
   pub problem : Problem
   pub asked : problem_for request.problem ≡ Ok problem
   pub task : SchedulingTask
@@ -29,9 +29,9 @@ pub record IsEvaluated (detail : Detail) (request : RequestData) (instance answe
   pub sheet : SheetData
   pub said : answer_in answer ≡ Ok sheet
   pub evaluation : IsEvaluation detail problem task sheet e
-  pub standing : HasStanding task sheet (standing_of e.fit e.best)
-  pub gap_is : HasGap e.fit e.best
-  pub ends : EndsInBound detail e.bound e.steps
+  pub standing : HasStanding task sheet (standing_of e.fit e.reference.best)
+  pub gap_is : HasGap e.fit e.reference.best
+  pub ends : EndsInBound detail e.reference.bound e.reference.steps
 
 -- the refusal is one of a check, or the answer text says a sheet, and these jobs are the cycle of the
 -- task's arcs that is named
@@ -47,9 +47,9 @@ abbrev pub evaluation_run : Detail → RequestData → DeviceUse → DeviceUse
     → Run (List ℕ × List ℕ) Standing
 evaluation_run detail request instance answer = record {
   Over = λ texts. IsTextOf instance.before texts.0 × IsTextOf answer.before texts.1;
-  Says = λ texts standing out. (e : EvaluationData)
-      × IsEvaluated detail request texts.0 texts.1 e × (standing ≡ standing_of e.fit e.best)
-      × (out ≡ evaluation_text e);
+  Says = λ texts standing out. (e : EvaluationData OptimumData)
+      × IsEvaluated detail request texts.0 texts.1 e
+      × (standing ≡ standing_of e.fit e.reference.best) × (out ≡ evaluation_text optimum_lines e);
   IsRefused = λ texts refused. IsRefusedEvaluation request texts.0 texts.1 refused;
   ReaderFailed = λ texts. HasReaderFailed request texts.0 instance answer;
 }

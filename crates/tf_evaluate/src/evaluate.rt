@@ -1,5 +1,5 @@
 //! An answer, evaluated.
-ghost use Rattle.std.specs.Prelude.{◌≡◌, ◌↔◌, IsTrue, IfOk, IfErr, Some};
+ghost use Rattle.std.specs.Prelude.{◌≡◌, ◌↔◌, IsTrue, IfOk, IfErr, None, Some};
 ghost use Rattle.tf_model.specs.Sound.{IsSound};
 ghost use Rattle.tf_check.specs.Bound.{bound_by};
 ghost use Rattle.tf_check.specs.Certificate.{claim_of};
@@ -8,15 +8,15 @@ ghost use Rattle.tf_engine.specs.Checking.{IsFor};
 ghost use Rattle.tf_engine.specs.Solvers.{IsNotSolved};
 ghost use Rattle.tf_evaluate.specs.Evaluating.{EndsInBound, IsBoundOf, IsEvaluation, IsLeastCost};
 ghost use Rattle.tf_evaluate.specs.Evaluating.{HasFit, HasStanding, HasGap, ShowsLeast, bound_for};
-ghost use Rattle.tf_evaluate.specs.Evaluating.{IsJudgedAs, IsOptimum};
-ghost use Rattle.tf_evaluate.specs.Evaluating.{outcomes_for, steps_for};
+ghost use Rattle.tf_evaluate.specs.Evaluating.{IsJudgedAs, IsOptimum, outcomes_for, steps_for};
 ghost use Rattle.tf_evaluate.specs.EvaluationData.{standing_of};
 
 use crate::arithmetic::arithmetic;
 use crate::evaluation::{Detail, Evaluation, JobOutcome, ProblemFit, problem_fit};
 use crate::outcomes::outcomes;
+use crate::reference::Optimum;
 use crate::step::Step;
-use std::alloc::{Allocator, Global};
+use std::alloc::Allocator;
 use tf_check::answer::Answer;
 use tf_check::certificate::Certificate;
 use tf_check::fault::BoundFault;
@@ -37,11 +37,13 @@ pub fn evaluate<A: Allocator + Copy, B: Allocator, C: Allocator>(
     task: &Task<B>,
     sheet: Sheet<C>,
     detail: Detail,
-) -> Result<Evaluation<A>, SolveFault<A>>
+) -> Result<Evaluation<Optimum<A>, A>, SolveFault<A>>
     ensures evaluation { IfOk result (IsEvaluation detail problem.now task.now sheet) }
     ensures standing { IfOk result
-        (λ e. HasStanding task.now sheet (standing_of e.fit e.best) × HasGap e.fit e.best) }
-    ensures arithmetic { IfOk result (λ e. EndsInBound detail e.bound e.steps) }
+        (λ e. HasStanding task.now sheet (standing_of e.fit e.reference.best)
+        × HasGap e.fit e.reference.best) }
+    ensures arithmetic { IfOk result
+        (λ e. EndsInBound detail e.reference.bound e.reference.steps) }
     ensures refused { IfErr result (IsNotSolved task.now) }
 {
     let jobs = task.len() as u32;
@@ -64,9 +66,7 @@ pub fn evaluate<A: Allocator + Copy, B: Allocator, C: Allocator>(
         machines: task.machines(),
         fit,
         claimed: Some(claimed),
-        best,
-        bound,
-        steps,
+        reference: Optimum { best, bound, steps },
         outcomes,
     })
 }
@@ -105,21 +105,15 @@ fn least_cost<A: Allocator + Copy, B: Allocator>(
     Ok(answer.value)
 }
 
-/// The least cost of a timetable that fits, and what shows it.
-#[derive(Drop)]
-pub struct Optimum<A: Allocator = Global> {
-    pub best: i64,
-    /// The arithmetic of a certificate that no timetable costs less; none where it isn't asked for.
-    pub steps: Vec<Step, A>,
-}
-
-/// The optimum of a task. A cycle of arcs is refused, since then no timetable fits.
+/// The optimum of a task, with the arithmetic of a certificate that shows it where that is asked
+/// for. A cycle of arcs is refused, since then no timetable fits.
 pub fn find_optimum<A: Allocator + Copy, B: Allocator>(
     alloc: A,
     task: &Task<B>,
     detail: Detail,
 ) -> Result<Optimum<A>, SolveFault<A>>
-    ensures shown { IfOk result (λ o. IsOptimum detail task.now o.best o.steps.items) }
+    ensures shown { IfOk result (λ o. IsOptimum detail task.now o.best o.steps) }
+    ensures alone { IfOk result (λ o. o.bound ≡ None) }
     ensures refused { IfErr result (IsNotSolved task.now) }
 {
     // A task of which something is read is sound.
@@ -132,7 +126,11 @@ pub fn find_optimum<A: Allocator + Copy, B: Allocator>(
     } = answer;
     let bound = Some(Ok(i128::from(best)));
     let steps = steps_of(alloc, task, &certificate, &bound, detail)?;
-    Ok(Optimum { best, steps })
+    Ok(Optimum {
+        best,
+        bound: None,
+        steps,
+    })
 }
 
 // How an answer stands to a task, and what happens to the jobs.

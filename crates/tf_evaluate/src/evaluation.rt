@@ -2,10 +2,9 @@
 ghost use Rattle.std.specs.Prelude.{◌≡◌};
 ghost use Rattle.tf_evaluate.specs.EvaluationData.{problem_fit, value_in};
 
-use crate::step::Step;
+use crate::reference::Reference;
 use std::alloc::{Allocator, Global};
 use std::marker::Model;
-use tf_check::fault::BoundFault;
 use tf_check::judgement::Fit;
 use tf_model::ids::JobId;
 use tf_model::problem::Problem;
@@ -33,7 +32,7 @@ pub enum ProblemFit {
     Misfit(ProblemMisfit),
 }
 
-/// The same of pieces that stand so to a task of a class.
+/// How pieces stand, as to a task of any problem, that stand so to a task of a class.
 pub fn problem_fit(fit: Fit) -> ProblemFit
     ensures { result ≡ problem_fit fit }
 {
@@ -94,7 +93,7 @@ pub struct JobOutcome {
 
 /// An answer, or a schedule of which nothing is claimed, as it stands to a task.
 #[derive(Drop)]
-pub struct Evaluation<A: Allocator = Global> {
+pub struct Evaluation<R, A: Allocator = Global> {
     /// The problem that is asked.
     pub problem: Problem,
     /// The task's numbers of jobs and of machines.
@@ -104,22 +103,16 @@ pub struct Evaluation<A: Allocator = Global> {
     pub fit: Option<ProblemFit>,
     /// The value that the answer claims; `None` for a schedule of which nothing is claimed.
     pub claimed: Option<i64>,
-    /// The least cost of a timetable that fits.
-    pub best: i64,
-    /// What the certificate bounds, or its first fault; `None` for an answer to another task and
-    /// for a schedule without a certificate.
-    pub bound: Option<Result<i128, BoundFault>>,
-    /// The certificate's arithmetic, which ends in its bound; none where it isn't asked for or the
-    /// certificate has no bound.
-    pub steps: Vec<Step, A>,
+    /// What the cost is held against: the optimum, or a lower bound.
+    pub reference: R,
     /// The jobs from 1 on, where the pieces make a schedule and the answer is for the task.
     pub outcomes: Vec<JobOutcome, A>,
 }
 
-impl<A: Allocator> Model for Evaluation<A> {
+impl<R, A: Allocator> Model for Evaluation<R, A> {
     ghost use Rattle.tf_evaluate.specs.EvaluationData.{EvaluationData};
 
-    ghost Value = { EvaluationData };
+    ghost Value = { EvaluationData R };
 
     ghost view = { λ e. record {
       problem = e.problem;
@@ -127,27 +120,21 @@ impl<A: Allocator> Model for Evaluation<A> {
       machines = e.machines;
       fit = e.fit;
       claimed = e.claimed;
-      best = e.best;
-      bound = e.bound;
-      steps = e.steps.items;
+      reference = e.reference;
       outcomes = e.outcomes.items;
     } };
 }
 
-impl<A: Allocator> Evaluation<A> {
+impl<R: Reference, A: Allocator> Evaluation<R, A> {
     ghost use Rattle.std.specs.Prelude.{◌≡◌};
-    ghost use Rattle.tf_evaluate.specs.EvaluationData.{standing_of};
+    ghost use Rattle.tf_evaluate.specs.EvaluationData.{standing_by};
 
     /// What the schedule comes to.
     pub fn standing(&self) -> Standing
-        ensures { result ≡ standing_of self.now.fit self.now.best }
+        ensures { result ≡ standing_by (R.rated self.now.reference) self.now.fit }
     {
         match &self.fit {
-            Some(ProblemFit::Fits(Some(value))) if *value <= i128::from(self.best) => {
-                Standing::Best
-            }
-            Some(ProblemFit::Fits(Some(_))) => Standing::Beaten,
-            Some(ProblemFit::Fits(None)) => Standing::Unproved,
+            Some(ProblemFit::Fits(value)) => self.reference.standing(*value),
             Some(ProblemFit::NoSchedule(fault)) => Standing::Unfit(WhyUnfit::NoSchedule(*fault)),
             Some(ProblemFit::Misfit(misfit)) => Standing::Unfit(WhyUnfit::Misfit(*misfit)),
             None => Standing::Unfit(WhyUnfit::OtherTask),

@@ -5,6 +5,7 @@ mod arithmetic;
 pub mod evaluate;
 pub mod evaluation;
 mod outcomes;
+pub mod reference;
 pub mod run_evaluate;
 pub mod step;
 pub mod writing;

@@ -4,12 +4,12 @@ ghost use Rattle.std.specs.Fmt.{decimal};
 ghost use Rattle.std.specs.List.{flat_map, join_with_byte};
 ghost use Rattle.tf_text.specs.AnswerText.{line_text};
 ghost use Rattle.tf_evaluate.specs.EvaluationText.{fit_words, claimed_lines, number_lines};
-ghost use Rattle.tf_evaluate.specs.EvaluationText.{problem_misfit_words, gap_lines};
-ghost use Rattle.tf_evaluate.specs.EvaluationText.{bound_words, bound_lines};
-ghost use Rattle.tf_evaluate.specs.EvaluationText.{outcome_words, judgement_lines, step_words};
-ghost use Rattle.tf_evaluate.specs.EvaluationText.{terms_words, evaluation_text};
+ghost use Rattle.tf_evaluate.specs.EvaluationText.{problem_misfit_words, gap_lines, bound_words};
+ghost use Rattle.tf_evaluate.specs.EvaluationText.{bound_lines, outcome_words, judgement_lines};
+ghost use Rattle.tf_evaluate.specs.EvaluationText.{step_words, terms_words, evaluation_text};
 
 use crate::evaluation::{Evaluation, JobOutcome, ProblemFit, value_in};
+use crate::reference::Reference;
 use crate::step::{Step, Terms};
 use itoa::Integer;
 use std::alloc::Allocator;
@@ -22,11 +22,11 @@ use tf_schedule::misfit::ProblemMisfit;
 use tf_text::answer::writing::{push_number, push_number_line};
 
 /// The text of an evaluation, by lines and words, each line ended by a line feed.
-pub fn evaluation_bytes<A: Allocator + Copy, M: Allocator>(
+pub fn evaluation_bytes<R: Reference, A: Allocator + Copy, M: Allocator>(
     alloc: A,
-    evaluation: &Evaluation<M>,
+    evaluation: &Evaluation<R, M>,
 ) -> Result<Vec<u8, A>, OutOfMemory>
-    ensures { IfOk result (λ text. text.items ≡ evaluation_text evaluation.now) }
+    ensures { IfOk result (λ text. text.items ≡ evaluation_text R.lines evaluation.now) }
 {
     let notation = notation_text(alloc, &evaluation.problem)?;
     let mut text = Vec::from_slice(alloc, b"evaluation 1\nproblem ")?;
@@ -35,27 +35,24 @@ pub fn evaluation_bytes<A: Allocator + Copy, M: Allocator>(
     push_number_line(&mut text, b"jobs", evaluation.jobs)?;
     push_number_line(&mut text, b"machines", evaluation.machines)?;
     push_judgement(&mut text, evaluation)?;
-    push_steps(&mut text, evaluation.steps.as_slice())?;
     push_outcomes(&mut text, evaluation.outcomes.as_slice())?;
     text.extend_from_slice(b"end\n")?;
     Ok(text)
 }
 
-// How the pieces fit, and the four numbers.
-fn push_judgement<A: Allocator, M: Allocator>(
+// How the pieces fit, what is claimed, the cost, and what it is held against.
+fn push_judgement<R: Reference, A: Allocator, M: Allocator>(
     text: &mut Vec<u8, A>,
-    evaluation: &Evaluation<M>,
+    evaluation: &Evaluation<R, M>,
 ) -> Result<(), OutOfMemory>
     ensures { OnOk result (text.new.items
-        ≡ text.old.items ++ flat_map line_text (judgement_lines evaluation.now)) }
+        ≡ text.old.items ++ flat_map line_text (judgement_lines R.lines evaluation.now)) }
 {
     push_fit(text, &evaluation.fit)?;
     push_claimed(text, evaluation.claimed)?;
     let value = value_in(&evaluation.fit);
     push_some(text, b"value", value)?;
-    push_number_line(text, b"best", evaluation.best)?;
-    push_gap(text, value, i128::from(evaluation.best))?;
-    push_bound(text, &evaluation.bound)?;
+    evaluation.reference.push(text, value)?;
     Ok(())
 }
 
@@ -157,7 +154,8 @@ pub fn push_gap<A: Allocator>(
     }
 }
 
-fn push_bound<A: Allocator>(
+/// Adds the line of what a certificate bounds, or of its first fault, where there is one.
+pub(crate) fn push_bound<A: Allocator>(
     text: &mut Vec<u8, A>,
     bound: &Option<Result<i128, BoundFault>>,
 ) -> Result<(), OutOfMemory>
@@ -176,7 +174,11 @@ fn push_bound<A: Allocator>(
     }
 }
 
-fn push_steps<A: Allocator>(text: &mut Vec<u8, A>, steps: &[Step]) -> Result<(), OutOfMemory>
+/// Adds a line for each step of an arithmetic.
+pub(crate) fn push_steps<A: Allocator>(
+    text: &mut Vec<u8, A>,
+    steps: &[Step],
+) -> Result<(), OutOfMemory>
     ensures { OnOk result
         (text.new.items ≡ text.old.items ++ flat_map line_text (map step_words steps.now)) }
 {

@@ -1,5 +1,5 @@
 -- What is written of orders: of one a whole evaluation, and of many a line each.
-use Rattle.std.specs.Prelude.{◌≡◌, Bool, true, false, ℕ, ◌+◌, ◌==◌, ℤ, ◌-ℤ◌, ◌⊎◌, unsigned_abs, List, [], ◌∷◌, ◌++◌, length, map, take, drop, codes, Option, None, Some, IfSome, Ok, Err, if◌then◌else◌}
+use Rattle.std.specs.Prelude.{◌≡◌, Bool, true, false, ℕ, ◌+◌, ◌==◌, ℤ, ◌⊎◌, List, [], ◌∷◌, ◌++◌, length, map, take, drop, codes, Option, None, Some, IfSome, Ok, Err, if◌then◌else◌}
 use Rattle.std.specs.List.{position}
 use Rattle.std.specs.Fmt.{decimal, signed_decimal}
 use Rattle.tf_words.specs.Words.{KeptLine, lines, kept_lines}
@@ -11,17 +11,17 @@ use Rattle.tf_text.specs.AnswerText.{line_text}
 use Rattle.tf_text.specs.declared.answer.fault.AnswerFault.{AnswerFault}
 use Rattle.tf_text.specs.declared.answer.fault.AnswerFault.TheVariants as answers
 use Rattle.tf_evaluate.specs.declared.evaluation.Standing.{Standing}
-use Rattle.tf_evaluate.specs.EvaluationData.{EvaluationData, standing_of}
+use Rattle.tf_evaluate.specs.EvaluationData.{EvaluationData, OptimumData, gap, standing_of}
 use Rattle.tf_evaluate.specs.Evaluating.{IsJudgedAs, outcomes_for}
-use Rattle.tf_evaluate.specs.EvaluationText.{fit_words, evaluation_text}
+use Rattle.tf_evaluate.specs.EvaluationText.{ReferenceLines, evaluation_text, fit_words, optimum_lines}
 use Rattle.tf_evaluate.specs.declared.step.Step.{Step}
-use Rattle.tf_assess.specs.declared.assessment.Assessment.{Assessment}
+use Rattle.tf_evaluate.specs.declared.evaluation.JobOutcome.{JobOutcome}
 use Rattle.tf_assess.specs.declared.offered.Weighed.{Weighed}
 use Rattle.tf_evaluate.specs.declared.evaluation.ProblemFit.{ProblemFit}
 use Rattle.tf_evaluate.specs.declared.evaluation.ProblemFit.TheVariants.{Fits}
 use Rattle.tf_assess.specs.Assessing.{IsProblemJudged, assessed_of, problem_outcomes}
-use Rattle.tf_assess.specs.AssessmentText.{assessment_text}
-use Rattle.tf_assess.specs.Measures.{AreMeasuredBy, measured_text, measured_words, value_word}
+use Rattle.tf_assess.specs.AssessmentText.{weighed_lines}
+use Rattle.tf_assess.specs.Measures.{AreMeasuredBy, PosedData, measured_text, measured_words, value_word}
 use Rattle.tf_assess.specs.declared.measures.Measures.{Measures}
 use Rattle.tf_orders.specs.declared.measure.Measure.{Measure}
 use Rattle.tf_orders.specs.declared.measure.Measure.TheVariants.{Optimum, Bound}
@@ -37,47 +37,54 @@ use Rattle.tf_orders.specs.Ruled.{IsRuled}
 
 -- ---- one order, evaluated
 
--- the pieces are evaluated beside the optimum and the arithmetic of what shows it, and nothing is
--- claimed or bounded beside them
-pub record IsScheduleEvaluation (problem : Problem) (k : SchedulingTask) (best : ℤ)
-    (steps : List Step) (ps : List Piece) (e : EvaluationData) : Type 0 where
+-- The pieces, of which nothing is claimed, are evaluated beside what their cost is held against:
+-- they stand so to the task, and this happens to its jobs.
+pub record IsScheduleEvaluation {R : Type 0} (problem : Problem) (jobs machines : ℕ) (reference : R)
+    (IsJudged : ProblemFit → Type 0) (outcomes : ProblemFit → List JobOutcome)
+    (e : EvaluationData R) : Type 0 where
   pub fit : ProblemFit
-  pub judged : IsJudgedAs k ps fit
+  pub judged : IsJudged fit
   pub is : e ≡ record {
     problem = problem;
-    jobs = length k.jobs;
-    machines = k.machines;
+    jobs = jobs;
+    machines = machines;
     fit = Some fit;
     claimed = None;
-    best = best;
-    bound = None;
-    steps = steps;
-    outcomes = outcomes_for k ps (Some fit);
+    reference = reference;
+    outcomes = outcomes fit;
   }
 
--- the same beside a lower bound, and beside what an offered bound comes to
-pub record IsScheduleAssessment {A : Type 0} (k : ProblemData) (weighed : Weighed A)
-    (ps : List Piece) (a : Assessment A) : Type 0 where
-  pub fit : ProblemFit
-  pub judged : IsProblemJudged k ps fit
-  pub is : a.fit ≡ Some fit
-  pub claimed : a.claimed ≡ None
-  pub offered : a.offered ≡ weighed.offered
-  pub bound : a.bound ≡ weighed.bound
-  pub outcomes : a.outcomes.items ≡ problem_outcomes k ps (Some fit)
+-- beside the optimum and the arithmetic of what shows it
+abbrev pub IsBesideOptimum : Problem → SchedulingTask → ℤ → List Step → List Piece
+    → EvaluationData OptimumData → Type 0
+IsBesideOptimum problem k best steps ps e =
+    IsScheduleEvaluation problem (length k.jobs) k.machines
+    (record { best = best; bound = None; steps = steps }) (IsJudgedAs k ps)
+    (λ fit. outcomes_for k ps (Some fit)) e
 
--- the text is the evaluation of the pieces, which come to this, with their values by the other
--- objectives where those are asked for
+-- beside a lower bound, and beside what an offered bound comes to
+abbrev pub IsBesideBound : {A : Type 0} → ProblemData → Weighed A → List Piece
+    → EvaluationData (Weighed A) → Type 0
+IsBesideBound k weighed ps e =
+    IsScheduleEvaluation k.problem (length k.jobs) k.machines weighed (IsProblemJudged k ps)
+    (λ fit. problem_outcomes k ps (Some fit)) e
+
+-- the text is that of the evaluation, with the values by the other objectives where those are asked for
+abbrev pub IsToldWith : {R : Type 0} → ReferenceLines R → Option PosedData → List Piece
+    → EvaluationData R → List ℕ → Type 0
+IsToldWith lines others ps e out =
+    (m : Option Measures) × AreMeasuredBy others ps m
+    × (out ≡ measured_text (evaluation_text lines e) m)
+
+-- the text is the evaluation of the pieces, which come to this
 abbrev pub IsEvaluated : {A : Type 0} → Measure A → List Piece → List ℕ → Standing → Type 0
 IsEvaluated (Optimum problem task best steps others) ps out standing =
-    (e : EvaluationData) × IsScheduleEvaluation problem task best steps.items ps e
-    × ((m : Option Measures) × AreMeasuredBy others ps m
-    × (out ≡ measured_text (evaluation_text e) m)) × (standing ≡ standing_of e.fit e.best)
+    (e : EvaluationData OptimumData) × IsBesideOptimum problem task best steps.items ps e
+    × IsToldWith optimum_lines others ps e out × (standing ≡ standing_of e.fit e.reference.best)
 IsEvaluated {A = A} (Bound task weighed others) ps out standing =
-    (a : Assessment A) × IsScheduleAssessment task weighed ps a
-    × ((m : Option Measures) × AreMeasuredBy others ps m
-    × (out ≡ measured_text (assessment_text task (length task.jobs) a) m))
-    × (standing ≡ assessed_of a.fit a.bound.value)
+    (e : EvaluationData (Weighed A)) × IsBesideBound task weighed ps e
+    × IsToldWith weighed_lines others ps e out
+    × (standing ≡ assessed_of e.fit e.reference.bound.value)
 
 -- the same of a standing that is kept as that of one order
 abbrev pub IsEvaluatedAs : {A : Type 0} → Measure A → List Piece → List ℕ → OrdersRated → Type 0
@@ -89,7 +96,7 @@ IsEvaluatedAs m ps out rateds.Lines = ⊥
 -- by how much a cost is above the least one or a bound, or `-` where it is missing
 abbrev pub gap_or_dash : Option ℤ → ℤ → List ℕ
 gap_or_dash None least = codes "-"
-gap_or_dash (Some value) least = decimal (unsigned_abs (value -ℤ least))
+gap_or_dash (Some value) least = decimal (gap value least)
 
 -- the cost of a schedule that fits, and its gap to the least cost or to a lower bound, with its values
 -- by the other objectives where those are asked for; or the misfit

@@ -31,8 +31,8 @@ pub(crate) struct OrderCase<A: Allocator = Global> {
     pub text: Vec<u8, A>,
 }
 
-/// Reads an instance and the orders to their ends. Where it is `bounded`, the schedules are measured
-/// by lower bounds, also in a class.
+/// Reads an instance and the orders to their ends. Where it is `bounded`, the schedules are
+/// measured by lower bounds, also in a class.
 pub(crate) fn order_case_read<A: Allocator + Copy, B: Allocator, R: Read, S: Read>(
     alloc: A,
     request: &Request<B>,

@@ -11,8 +11,9 @@ use tf_bound::task::ProblemTask;
 use tf_bounding::feasible::check_feasible;
 use tf_engine::case::Asked;
 use tf_engine::fault::RunFault;
-use tf_evaluate::evaluate::{Optimum, find_optimum};
+use tf_evaluate::evaluate::find_optimum;
 use tf_evaluate::evaluation::Detail;
+use tf_evaluate::reference::Optimum;
 use tf_evaluate::step::Step;
 use tf_model::problem::Problem;
 use tf_model::task::Task;
@@ -83,7 +84,7 @@ pub(crate) fn measured<A: Allocator + Copy, P: Progress + Drop>(
     match posed {
         Posed::Solved(asked) => {
             let Asked { problem, task } = asked;
-            let Optimum { best, steps } = find_optimum(alloc, &task, detail)?;
+            let Optimum { best, steps, .. } = find_optimum(alloc, &task, detail)?;
             Ok(Measure::Optimum {
                 problem,
                 task,

@@ -12,8 +12,8 @@ use tf_model::memory::OutOfMemory;
 use tf_text::answer::writing::push_number_line;
 use tf_words::line::Lines;
 
-/// The rows of the lines of a text with their numbers, behind a line of what the orders are measured
-/// by.
+/// The rows of the lines of a text with their numbers, behind a line of what the orders are
+/// measured by.
 pub(crate) fn with_numbers<A: Allocator + Copy, B: Allocator>(
     alloc: A,
     measure: &Measure<B>,

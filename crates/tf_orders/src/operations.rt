@@ -19,8 +19,9 @@ use tf_model::memory::OutOfMemory;
 use tf_model::problem::Env;
 use tf_schedule::piece::Piece;
 
-/// The order of the operations of a job shop that a text says: each job stands as often as its route
-/// has operations. `None` where it says none, and outside job shops. Only want of memory is an error.
+/// The order of the operations of a job shop that a text says: each job stands as often as its
+/// route has operations. `None` where it says none, and outside job shops. Only want of memory is
+/// an error.
 pub(crate) fn operations_in<A: Allocator + Copy, B: Allocator>(
     alloc: A,
     task: &ProblemTask<B>,

@@ -49,8 +49,8 @@ pub fn order_in<A: Allocator + Copy>(
     Ok(Some(turns))
 }
 
-/// The turns that the words say, machine by machine. `None` where a word is no job, or there are not
-/// so many machines. Only want of memory is an error.
+/// The turns that the words say, machine by machine. `None` where a word is no job, or there are
+/// not so many machines. Only want of memory is an error.
 pub(crate) fn turns_in<A: Allocator + Copy>(
     alloc: A,
     jobs: u32,

@@ -1,15 +1,13 @@
 //! How good the schedules of orders are.
-ghost use Rattle.std.specs.Prelude.{◌≡◌, ◌++◌, ◌≤◌, length, List, ℕ, Ok, IfOk, OnOk};
-ghost use Rattle.std.specs.Prelude.{MatchResult};
+ghost use Rattle.std.specs.Prelude.{◌≡◌, ◌++◌, ◌≤◌, length, List, ℕ, Ok, IfOk, OnOk, MatchResult};
 ghost use Rattle.tf_words.specs.Words.{kept_lines, lines};
 ghost use Rattle.tf_model.specs.Limit.{most_bytes};
 ghost use Rattle.tf_engine.specs.Faults.{stop_of};
 ghost use Rattle.tf_evaluate.specs.Evaluating.{IsJudgedAs};
 ghost use Rattle.tf_orders.specs.OrderParts.{IsUndrawn, IsUnrated, IsWithoutRow};
 ghost use Rattle.tf_orders.specs.Pieces.{pieces_of};
-ghost use Rattle.tf_orders.specs.OrderText.{AreRated, AreRows, IsEvaluatedAs, IsLineOf, IsRowOf};
-ghost use Rattle.tf_orders.specs.OrderText.{AreNumberedRows, IsScheduleAssessment};
-ghost use Rattle.tf_orders.specs.OrderText.{IsScheduleEvaluation};
+ghost use Rattle.tf_orders.specs.OrderText.{AreNumberedRows, AreRated, AreRows, IsBesideBound};
+ghost use Rattle.tf_orders.specs.OrderText.{IsBesideOptimum, IsEvaluatedAs, IsLineOf, IsRowOf};
 ghost use Rattle.tf_evaluate.specs.declared.evaluation.Detail.{Detail};
 
 use crate::grading::push_graded;
@@ -22,10 +20,8 @@ use crate::schedules::scheduled;
 use crate::writing::push_row;
 use std::alloc::Allocator;
 use tf_assess::assess::{judge_problem_pieces, judged};
-use tf_assess::assessment::Assessment;
 use tf_assess::measures::{measured_by, with_measures};
 use tf_assess::offered::Weighed;
-use tf_assess::writing::assessment_bytes;
 use tf_bound::task::ProblemTask;
 use tf_check::certificate::Certificate;
 use tf_check::judgement::{Judgement, judge_answer};
@@ -34,6 +30,7 @@ use tf_engine::fault::RunFault;
 use tf_engine::output::Output;
 use tf_evaluate::evaluate::judge_pieces;
 use tf_evaluate::evaluation::{Evaluation, ProblemFit, problem_fit};
+use tf_evaluate::reference::Optimum;
 use tf_evaluate::step::Step;
 use tf_evaluate::writing::evaluation_bytes;
 use tf_model::memory::OutOfMemory;
@@ -163,9 +160,9 @@ fn evaluated<A: Allocator + Copy>(
             others,
         } => {
             let measures = measured_by(alloc, &others, &pieces)?;
-            let assessment = assessment_of(alloc, &task, weighed, pieces)?;
-            let text = with_measures(assessment_bytes(alloc, &task, &assessment)?, &measures)?;
-            let returned = OrdersRated::Single(assessment.standing());
+            let evaluation = evaluation_beside(alloc, &task, weighed, pieces)?;
+            let text = with_measures(evaluation_bytes(alloc, &evaluation)?, &measures)?;
+            let returned = OrdersRated::Single(evaluation.standing());
             Ok(Output { text, returned })
         }
     }
@@ -179,9 +176,9 @@ fn evaluation_of<A: Allocator + Copy, B: Allocator>(
     best: i64,
     steps: Vec<Step, A>,
     pieces: Vec<Piece, A>,
-) -> Result<Evaluation<A>, OutOfMemory>
+) -> Result<Evaluation<Optimum<A>, A>, OutOfMemory>
     ensures { IfOk result
-        (IsScheduleEvaluation problem task.now best steps.items pieces.items) }
+        (IsBesideOptimum problem task.now best steps.items pieces.items) }
 {
     // What this certificate bounds is not looked at.
     let load: Certificate<A> = Certificate::Load(Load);
@@ -192,29 +189,32 @@ fn evaluation_of<A: Allocator + Copy, B: Allocator>(
         machines: task.machines(),
         fit: Some(judged.fit),
         claimed: None,
-        best,
-        bound: None,
-        steps,
+        reference: Optimum {
+            best,
+            bound: None,
+            steps,
+        },
         outcomes: judged.outcomes,
     })
 }
 
 // How a schedule stands to a task beside a lower bound.
-fn assessment_of<A: Allocator + Copy, B: Allocator>(
+fn evaluation_beside<A: Allocator + Copy, B: Allocator>(
     alloc: A,
     task: &ProblemTask<B>,
     weighed: Weighed<A>,
     pieces: Vec<Piece, A>,
-) -> Result<Assessment<A>, OutOfMemory>
-    ensures { IfOk result (IsScheduleAssessment task.now weighed pieces.items) }
+) -> Result<Evaluation<Weighed<A>, A>, OutOfMemory>
+    ensures { IfOk result (IsBesideBound task.now weighed pieces.items) }
 {
-    let Weighed { offered, bound } = weighed;
     let judged = judge_problem_pieces(alloc, task, pieces)?;
-    Ok(Assessment {
+    Ok(Evaluation {
+        problem: task.problem(),
+        jobs: task.len() as u32,
+        machines: task.machines(),
         fit: Some(judged.fit),
         claimed: None,
-        offered,
-        bound,
+        reference: weighed,
         outcomes: judged.outcomes,
     })
 }

@@ -31,8 +31,8 @@ pub enum OrderForm {
     Single(Detail),
     /// Each line that has a word and is no comment is an order. A line is written of each: the cost
     /// of the schedule and its gap to the optimum or to the lower bound, or the misfit. Of a line
-    /// that is no order it is `wrong` and why, if the others are gone on with; then a line may begin
-    /// with a label and a colon, which are kept, and commas divide jobs.
+    /// that is no order it is `wrong` and why, if the others are gone on with; then a line may
+    /// begin with a label and a colon, which are kept, and commas divide jobs.
     Lines { goes_on: bool },
     /// The same, with the number of its line before what is written of each, and behind a line of
     /// the optimum, `best`, or of the lower bound, `bound`.
@@ -86,11 +86,10 @@ pub enum OrdersRated {
 
 /// Reads an instance and the text of orders or pieces to their ends, and writes how good the
 /// schedule of the pieces is, or the semi-active schedules of the orders. The task is solved, or a
-/// lower bound of it is searched for, once; where a bound is offered, that is judged and taken if it
-/// is stronger. Where an instance is given for the other objectives, the
-/// values of each schedule that fits by these are written too: in an evaluation a line
-/// `measure NAME VALUE` for each that it has, and in the line of an order nine words, or `-` where
-/// there is none.
+/// lower bound of it is searched for, once; where a bound is offered, that is judged and taken if
+/// it is stronger. Where an instance is given for the other objectives, the values of each schedule
+/// that fits by these are written too: in an evaluation a line `measure NAME VALUE` for each that
+/// it has, and in the line of an order nine words, or `-` where there is none.
 ///
 /// The refusals come in this order: those of [`tf_engine::run_solve::run_solve`], where a problem
 /// of no class, and with a bound any problem, is refused only if no kind of certificate bounds it;
@@ -120,8 +119,8 @@ pub fn run_orders<
         result }
     ensures devices { LeavesCase
         (measured_problem (is_some measuring.aids.offered) asked.entry.request.now.problem)
-        R.remaining instance.old instance.new S.remaining orders.old orders.new writer.old writer.new
-        (end_of result) }
+        R.remaining instance.old instance.new S.remaining orders.old orders.new writer.old
+        writer.new (end_of result) }
 {
     write_output(
         writer,

@@ -21,13 +21,14 @@ returns g c =
     c.in_ok-fit.ensures.fit c.args.sheet pieces is_its in
     let fits : SFits w64 c.pieces.inside.value = search rules in
     record {
+      problem = c.problem.ensures.value;
+      jobs = c.len.ensures.value;
+      machines = c.machines.ensures.value;
       fit = fit;
       claimed = ap Some (to_z-of_z w64 c.pieces.inside.value fits
           ∙ ap (λ (a : AnswerData). a.value) (c.pieces.view_is ∙ c.into_answer.ensures));
-      offered = c.in_ok-offered.ensures.offered;
-      bound = c.in_ok-offered.ensures.bound;
-      counts = c.in_ok-offered.ensures.counts;
-      standing = standing_is k c.args.sheet judged _ fit c.in_ok-offered.ensures.bound;
+      weighed = c.in_ok-reference.ensures;
+      standing = standing_is k c.args.sheet judged _ fit c.in_ok-reference.ensures.bound;
       outcomes = c.in_ok-fit.ensures.outcomes
           ∙ ap (λ (ps : List Piece). problem_outcomes k ps judged) (sym pieces);
     }

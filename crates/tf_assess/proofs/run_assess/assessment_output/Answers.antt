@@ -22,11 +22,11 @@ returns-in_err-check_feasible g c =
     (both_later had.readers _ (cyclic_later _ _ cyclic))
     c.from_residual-in_err-check_feasible.ensures.1
 
-pub returns-in_err-assessment : goal.returns-in_err-assessment
-returns-in_err-assessment g c =
+pub returns-in_err-evaluation : goal.returns-in_err-evaluation
+returns-in_err-evaluation g c =
     let had = c.in_ok-case.ensures in
     wanting (had.text, had.answer_text) (had.is_all, had.is_whole_answer)
-    (both_later had.readers Wants refl) c.from_residual-in_err-assessment.ensures.1
+    (both_later had.readers Wants refl) c.from_residual-in_err-evaluation.ensures.1
 
 pub returns-in_err-text : goal.returns-in_err-text
 returns-in_err-text g c =
@@ -41,14 +41,14 @@ returns g c =
       texts = (had.text, had.answer_text);
       are_all = (had.is_all, had.is_whole_answer);
       given = (
-        c.in_ok-assessment.assessment,
+        c.in_ok-evaluation.evaluation,
         record {
           task = _;
           meant = had.given.meant;
           feasible = c.in_ok-check_feasible.ensures;
           sheet = _;
           said = had.given.said;
-          is = c.in_ok-assessment.ensures;
+          is = c.in_ok-evaluation.ensures;
           written = c.in_ok-text.ensures;
         },
         c.standing-returned.ensures,
