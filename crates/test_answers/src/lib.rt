@@ -1,6 +1,6 @@
-//! Tests over the runs that take an answer: it is judged, drawn, pictured, evaluated, and assessed by
-//! a bound; and over the runs that print a bound or rate orders. And what is said of faults that no
-//! session comes to.
+//! Tests over the runs that take an answer: it is judged, drawn, pictured, evaluated, and assessed
+//! by a bound; and over the runs that print a bound or rate orders. And what is said of faults that
+//! no session comes to.
 #![tactic(auto)]
 
 #[cfg(test)]

@@ -1,5 +1,5 @@
-//! Instance texts that no session holds: with bytes that are no text or no line, of 10,000 digits, of
-//! as many lines as there may be, and asked for by what no command line says.
+//! Instance texts that no session holds: with bytes that are no text or no line, of 10,000 digits,
+//! of as many lines as there may be, and asked for by what no command line says.
 use std::alloc::{AllocError, Global};
 use std::test::Fail;
 use tf_model::instance::Instance;

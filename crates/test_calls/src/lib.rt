@@ -1,5 +1,6 @@
 //! Tests over single public calls, of what no command line shows: the model, schedules, a
-//! certificate, and texts of bytes or lengths that no session has. And runs over the greatest sizes.
+//! certificate, and texts of bytes or lengths that no session has. And runs over the greatest
+//! sizes.
 //!
 //! The wanted values are worked out by hand from the formats of the texts.
 #![tactic(auto)]

@@ -25,8 +25,8 @@ impl<'a> Shown<'a> {
         }
     }
 
-    /// Whether it is played with a terminal. That shows of a range of instances whose turn it is, so
-    /// such a command has one only where this is shown.
+    /// Whether it is played with a terminal. That shows of a range of instances whose turn it is,
+    /// so such a command has one only where this is shown.
     pub fn has_terminal(&self) -> bool {
         !self.command.contains("--index") || self.said.contains('\r')
     }

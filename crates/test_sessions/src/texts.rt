@@ -38,7 +38,8 @@ impl NamedText<'_> {
     }
 }
 
-/// Puts a line behind a text, and a line feed unless it ends with a backslash, which stands for none.
+/// Puts a line behind a text, and a line feed unless it ends with a backslash, which stands for
+/// none.
 fn push(text: &mut String, line: &str) -> Result<(), AllocError> {
     match line.strip_suffix("\\") {
         Some(line) => text.push_str(line),

@@ -4,6 +4,10 @@
 pub const EXCHANGED: &str =
     "A command that takes both takes INPUT first and ANSWER second: perhaps they are exchanged.";
 
+/// The fields of a job.
+const FIELDS: &str = "p= is the processing time, w= the weight, d= the due date, r= the release \
+                      date, h= the cost.";
+
 /// What a person may have done.
 #[derive(Clone, Copy, Debug, PartialEq, Eq)]
 pub enum Cause {
@@ -86,7 +90,8 @@ impl Place {
                 "A job line is \"job K p=T\" with any of w= d= r= h=, and K counts up from 1."
             }
             Place::Arc => {
-                "An arc is \"prec A B\", after the last job: job A is completed before job B starts."
+                "An arc is \"prec A B\", after the last job: job A is completed before job B \
+                 starts."
             }
         }
     }
@@ -148,7 +153,8 @@ pub static ADVICE: [Advice; 52] = [
         cause: Cause::IsSpreadsheet,
         place: Place::Heading,
         wrong: "This looks like a file of a spreadsheet, and not like a job table.",
-        fix: "Below a line \"table 1\" write a line such as \"job 1 p=3 d=4\" for each of its rows.",
+        fix: "Below a line \"table 1\" write a line such as \"job 1 p=3 d=4\" for each of its \
+              rows.",
     },
     Advice {
         cause: Cause::IsOtherKind,
@@ -274,13 +280,13 @@ pub static ADVICE: [Advice; 52] = [
         cause: Cause::LongName,
         place: Place::Job,
         wrong: "A field is named by one lower case letter.",
-        fix: "p= is the processing time, w= the weight, d= the due date, r= the release date, h= the cost.",
+        fix: FIELDS,
     },
     Advice {
         cause: Cause::UnknownField,
         place: Place::Job,
         wrong: "There is no such field.",
-        fix: "p= is the processing time, w= the weight, d= the due date, r= the release date, h= the cost.",
+        fix: FIELDS,
     },
     Advice {
         cause: Cause::FieldTwice,
@@ -346,7 +352,8 @@ pub static ADVICE: [Advice; 52] = [
         cause: Cause::Date,
         place: Place::Job,
         wrong: "This looks like a date, and times are whole numbers of time steps.",
-        fix: "Count the days or hours from the start of the plan; the page in the browser does that.",
+        fix: "Count the days or hours from the start of the plan; the page in the browser does \
+              that.",
     },
     Advice {
         cause: Cause::Range,

@@ -164,8 +164,8 @@ fn contains(asked: &Problem, known: &Problem) -> bool {
         && are_alike(asked, known)
 }
 
-// Whether the machines are of the same kind, or a flow shop and a job shop, of which it is a special
-// case.
+// Whether the machines are of the same kind, or a flow shop and a job shop, of which it is a
+// special case.
 fn has_machines_of(asked: Env, known: Env) -> bool {
     asked == known || (asked == Env::JobShop && known == Env::Flow)
 }

@@ -92,8 +92,8 @@ impl Page {
 }
 
 /// A name or an argument as it is printed: each byte that is no printable ASCII is escaped, as
-/// those of a text are, so that it can neither steer a terminal nor begin a line, and a backslash is
-/// doubled, so that it looks like no escape.
+/// those of a text are, so that it can neither steer a terminal nor begin a line, and a backslash
+/// is doubled, so that it looks like no escape.
 pub fn escape(alloc: Global, text: &str) -> Result<String, AllocError> {
     let mut escaped = String::new(alloc);
     push_name(&mut escaped, text)?;

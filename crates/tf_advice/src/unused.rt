@@ -6,8 +6,8 @@ use tf_model::class::Class;
 use tf_model::job::Job;
 use tf_model::prepare::Field;
 
-/// What an instance says that a problem may have no use for: how many jobs have each field, how many
-/// precedence constraints there are, and the number of machines.
+/// What an instance says that a problem may have no use for: how many jobs have each field, how
+/// many precedence constraints there are, and the number of machines.
 #[derive(Clone, Copy)]
 pub struct Said {
     weights: usize,

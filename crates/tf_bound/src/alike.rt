@@ -1,6 +1,6 @@
 //! The bounds of jobs that have one time each: windows, crowds, and one job anywhere.
-ghost use Rattle.std.specs.Prelude.{◌≡◌, ℕ, ◌+◌, ◌*◌, ◌^◌, ◌<◌, ◌≤◌, ◌||◌, pos, ◌-ℤ◌, length, sum_by};
-ghost use Rattle.std.specs.Prelude.{None, Some, IfOk, IsTrue, IsFalse, MatchResult};
+ghost use Rattle.std.specs.Prelude.{◌≡◌, ℕ, ◌+◌, ◌*◌, ◌^◌, ◌<◌, ◌≤◌, ◌||◌, pos, ◌-ℤ◌, length};
+ghost use Rattle.std.specs.Prelude.{sum_by, None, Some, IfOk, IsTrue, IsFalse, MatchResult};
 ghost use Rattle.std.specs.List.{All};
 ghost use Rattle.tf_model.specs.ClassTable.{is_shop_env};
 ghost use Rattle.tf_model.specs.Cost.{greatest};
@@ -13,8 +13,7 @@ ghost use Rattle.tf_posed.specs.ProblemCost.{IsLowerBound};
 ghost use Rattle.tf_problem.specs.ProblemBounds.{is_alike, is_max_goal, crowd_value, one_job_value};
 ghost use Rattle.tf_problem.specs.ProblemBounds.{problem_work, window_value};
 ghost use Rattle.tf_bound.specs.Kinds.{takes_windows, takes_one_job};
-ghost use Rattle.tf_bound.specs.Faulted.{crowd_fault, one_job_fault, window_fault};
-ghost use Rattle.tf_bound.specs.Faulted.{NamesFault};
+ghost use Rattle.tf_bound.specs.Faulted.{crowd_fault, one_job_fault, window_fault, NamesFault};
 ghost use Rattle.tf_bound.specs.Sized.{IsSized};
 
 use crate::fault::BoundFault;

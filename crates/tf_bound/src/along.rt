@@ -1,7 +1,8 @@
 //! The least dates of jobs that are at least their own, and along each arc at least the date of the
 //! job before and its time.
 ghost use Rattle.std.specs.Prelude.{◌≡◌, ℕ, List, [], ◌∷◌, ◌-◌, ◌<◌, ◌≤◌, length, slice_index};
-ghost use Rattle.std.specs.Prelude.{slice_index_or, slice_set, false, true, IfOk, IsTrue, MatchOption};
+ghost use Rattle.std.specs.Prelude.{slice_index_or, slice_set, false, true, IfOk, IsTrue};
+ghost use Rattle.std.specs.Prelude.{MatchOption};
 ghost use Rattle.tf_model.specs.Limit.{most_jobs};
 ghost use Rattle.tf_problem.specs.Pushed.{release_in};
 ghost use Rattle.tf_bound.specs.Along.{AreAlong, AreAmong, AreDated, AreTimes, AreWithin, IsAmong};
@@ -117,8 +118,8 @@ fn pass(work: &[u64], dates: &mut [u64], arcs: &[(JobId, JobId)]) -> Raise
     }
 }
 
-// Raises the dates by passes until none is raised, or one would be beyond twice the limit. Each pass
-// makes the date of one more job the last one, so that one pass for each job is enough.
+// Raises the dates by passes until none is raised, or one would be beyond twice the limit. Each
+// pass makes the date of one more job the last one, so that one pass for each job is enough.
 fn settle(work: &[u64], dates: &mut [u64], arcs: &[(JobId, JobId)]) -> bool
     requires times { AreTimes (length dates.old) work.now }
     requires within { AreWithin dates.old }

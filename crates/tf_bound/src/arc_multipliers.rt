@@ -17,7 +17,8 @@ use tf_model::ids::JobId;
 // The arcs that are asked for.
 fn asked_arcs<B: Allocator>(task: &ProblemTask<B>) -> &[(JobId, JobId)]
     ensures arcs { result.now ≡ problem_arcs task.now }
-    ensures jobs { All (λ arc. IsProblemJob task.now arc.0 × IsProblemJob task.now arc.1) result.now }
+    ensures jobs { All (λ arc. IsProblemJob task.now arc.0 × IsProblemJob task.now arc.1)
+        result.now }
 {
     if task.problem().prec {
         task.arcs()

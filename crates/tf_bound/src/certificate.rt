@@ -92,8 +92,8 @@ pub enum BoundCertificate<A: Allocator = Global> {
         late: i64,
         jobs: Vec<JobId, A>,
     },
-    /// A number for the end of the last job of a no-wait flow shop, and two for each job: towards the
-    /// job after it and towards the one before it.
+    /// A number for the end of the last job of a no-wait flow shop, and two for each job: towards
+    /// the job after it and towards the one before it.
     Potentials {
         numbers: Vec<i64, A>,
     },

@@ -30,7 +30,8 @@ impl<A: Allocator> JobTimes<A> {
         }
     }
 
-    /// The machines in the order in which the job visits them, counted from 0, where it has a route.
+    /// The machines in the order in which the job visits them, counted from 0, where it has a
+    /// route.
     pub(crate) fn route(&self) -> Option<&[u32]>
         ensures none { IfNone result (route_in self.now ≡ []) }
         ensures route { IfSome result (λ route. route.now ≡ route_in self.now) }

@@ -1,5 +1,5 @@
-//! The bound of the weighted number of late jobs by those of a list that can be kept, by a table over
-//! the time of the jobs on time (Lawler and Moore 1969).
+//! The bound of the weighted number of late jobs by those of a list that can be kept, by a table
+//! over the time of the jobs on time (Lawler and Moore 1969).
 ghost use Rattle.std.specs.Prelude.{◌≡◌, ℕ, ◌+◌, ◌<◌, ◌≤◌, pos, length, slice_index, sum_by, IfOk};
 ghost use Rattle.std.specs.Prelude.{is_none, nat_le, IfSome, IsTrue, IsFalse};
 ghost use Rattle.std.specs.List.{All};
@@ -191,8 +191,8 @@ pub fn kept_weight_bound<A: Allocator + Copy, B: Allocator>(
     Ok(i128::from(least))
 }
 
-/// The bound by jobs in the order of their due dates: how many are late at least, or what they weigh
-/// where the objective has weights.
+/// The bound by jobs in the order of their due dates: how many are late at least, or what they
+/// weigh where the objective has weights.
 pub fn late_bound<A: Allocator + Copy, B: Allocator>(
     alloc: A,
     task: &ProblemTask<B>,

@@ -81,7 +81,8 @@ pub(crate) fn least_rest<B: Allocator>(task: &ProblemTask<B>, machine: usize, jo
     requires env { IsTrue (is_by_machine task.now.problem.env) }
     requires known { All (IsProblemJob task.now) jobs.now }
     requires some { 0 < length jobs.now }
-    ensures { result ≡ least (λ j. pos (tail task.now machine j) -ℤ problem_due task.now j) jobs.now }
+    ensures { result
+        ≡ least (λ j. pos (tail task.now machine j) -ℤ problem_due task.now j) jobs.now }
 {
     let mut least = rest_of(task, machine, jobs[0]);
     for job in jobs {

@@ -1,5 +1,5 @@
-//! The bound of a sum by prices of the rows on one machine of a shop: each job at its cheapest start
-//! there, with its head before and its tail behind, less what the machine can take in.
+//! The bound of a sum by prices of the rows on one machine of a shop: each job at its cheapest
+//! start there, with its head before and its tail behind, less what the machine can take in.
 ghost use Rattle.std.specs.Prelude.{◌≡◌, ◌+◌, ◌*◌, ◌<◌, ◌≤◌, length, max, is_none, IfOk, IfSome};
 ghost use Rattle.std.specs.Prelude.{pos, ◌-ℤ◌, IsFalse, IsTrue};
 ghost use Rattle.std.specs.List.{list_any, sum_by};
@@ -167,8 +167,8 @@ fn all_costs<A: Allocator>(
     Some(total)
 }
 
-/// The bound by the prices of the rows from 0 on, which are over q, on a machine, counted from 0. It
-/// takes memory for the rows.
+/// The bound by the prices of the rows from 0 on, which are over q, on a machine, counted from 0.
+/// It takes memory for the rows.
 pub fn machine_prices_bound<A: Allocator, B: Allocator>(
     alloc: A,
     task: &ProblemTask<B>,

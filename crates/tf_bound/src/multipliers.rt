@@ -1,8 +1,8 @@
 //! The bound of tardiness by multipliers of at most the weights (Potts and Van Wassenhove 1985) and
 //! of arcs, on the only machine, on one of a shop, or on identical ones.
 ghost use Rattle.std.specs.Prelude.{◌≡◌, ℕ, ◌+◌, ◌-◌, ◌*◌, ◌<◌, ◌≤◌, pos, ◌+ℤ◌, ◌-ℤ◌, ◌*ℤ◌, length};
-ghost use Rattle.std.specs.Prelude.{◌^◌, ◌||◌, map, nat_le, None, Some, is_none, IfErr, IfNone, IfOk, IfSome};
-ghost use Rattle.std.specs.Prelude.{IsFalse, IsTrue, MatchOption};
+ghost use Rattle.std.specs.Prelude.{◌^◌, ◌||◌, map, nat_le, None, Some, is_none, IfErr, IfNone};
+ghost use Rattle.std.specs.Prelude.{IfOk, IfSome, IsFalse, IsTrue, MatchOption};
 ghost use Rattle.std.specs.Ordering.{is_lt};
 ghost use Rattle.tf_model.specs.ClassTable.{is_parallel_env};
 ghost use Rattle.tf_model.specs.Limit.{limit};
@@ -16,10 +16,10 @@ ghost use Rattle.tf_problem.specs.ProblemBounds.{moved, numerator, owed_dues, ta
 ghost use Rattle.tf_problem.specs.Relaxed.{weighed_task};
 ghost use Rattle.tf_bound.specs.Kinds.{takes_multipliers};
 ghost use Rattle.tf_bound.specs.Faulted.{all_counted, are_multipliers_wide, are_owed_wide, come_to};
-ghost use Rattle.tf_bound.specs.Faulted.{first_job, first_start, is_beyond, is_idle, is_rest_wide, least_by};
-ghost use Rattle.tf_bound.specs.Faulted.{is_wide, multipliers_fault, numbers_fault, pairs_counted};
-ghost use Rattle.tf_bound.specs.Faulted.{timed_machine, too_large, wait_from, waits_from};
-ghost use Rattle.tf_bound.specs.Faulted.{NamesFault};
+ghost use Rattle.tf_bound.specs.Faulted.{first_job, first_start, is_beyond, is_idle, is_rest_wide};
+ghost use Rattle.tf_bound.specs.Faulted.{least_by, is_wide, multipliers_fault, numbers_fault};
+ghost use Rattle.tf_bound.specs.Faulted.{pairs_counted, timed_machine, too_large, wait_from};
+ghost use Rattle.tf_bound.specs.Faulted.{waits_from, NamesFault};
 ghost use Rattle.tf_bound.specs.Sized.{IsSized};
 ghost use Rattle.tf_bound.specs.declared.fault.BoundFault.TheVariants.{Condition, OutOfMemory};
 
@@ -319,8 +319,8 @@ fn with_product(sum: i128, times: u64, wait: i128) -> Option<i128>
     sum.checked_add(i128::from(times).checked_mul(wait)?)
 }
 
-/// The bound by multipliers on a machine, counted from 0: job by job their numerators over q, and arc
-/// by arc or none. On identical machines it is the same for each.
+/// The bound by multipliers on a machine, counted from 0: job by job their numerators over q, and
+/// arc by arc or none. On identical machines it is the same for each.
 pub fn multipliers_bound<A: Allocator + Copy, B: Allocator>(
     alloc: A,
     task: &ProblemTask<B>,

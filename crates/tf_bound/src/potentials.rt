@@ -1,6 +1,6 @@
-//! The bound of a no-wait flow shop by potentials. The starts of two jobs that follow each other are
-//! at least their delay apart (Wismer 1972), so two numbers for each job, as an assignment of jobs to
-//! the jobs after them has (Kuhn 1955), bound the makespan and the maximum lateness.
+//! The bound of a no-wait flow shop by potentials. The starts of two jobs that follow each other
+//! are at least their delay apart (Wismer 1972), so two numbers for each job, as an assignment of
+//! jobs to the jobs after them has (Kuhn 1955), bound the makespan and the maximum lateness.
 ghost use Rattle.std.specs.Prelude.{◌≡◌, ℕ, ◌+◌, ◌*◌, ◌^◌, ◌<◌, ◌≤◌, pos, ◌+ℤ◌, ◌-ℤ◌, ◌≤ℤ◌, int_lt};
 ghost use Rattle.std.specs.Prelude.{◌==◌};
 ghost use Rattle.std.specs.Prelude.{length, None, Some, IfNone, IfOk, IsTrue, IsFalse, MatchOption};
@@ -242,7 +242,8 @@ fn is_excessive<B: Allocator>(task: &ProblemTask<B>, numbers: &[i64], job: JobId
 fn first_excessive<B: Allocator>(task: &ProblemTask<B>, numbers: &[i64]) -> Option<JobId>
     requires flow { IsTrue (is_flow_env task.now.problem.env) }
     requires len { length numbers.now ≡ 2 * length task.now.jobs + 1 }
-    ensures first { MatchOption result (first_job task.now (is_excessive task.now numbers.now) ≡ None)
+    ensures first { MatchOption result
+        (first_job task.now (is_excessive task.now numbers.now) ≡ None)
         (λ job. first_job task.now (is_excessive task.now numbers.now) ≡ Some (Condition job)) }
     ensures none { IfNone result ((j : ℕ) → IsProblemJob task.now j
         → IsFalse (is_excessive task.now numbers.now j)) }
@@ -311,8 +312,8 @@ fn judge_potentials<B: Allocator>(task: &ProblemTask<B>, numbers: &[i64]) -> Res
     }
 }
 
-/// The bound by a number for the end of the last job, and two for each job, in the order of the jobs:
-/// towards the job after it, and towards the job before it.
+/// The bound by a number for the end of the last job, and two for each job, in the order of the
+/// jobs: towards the job after it, and towards the job before it.
 pub fn potentials_bound<B: Allocator>(
     task: &ProblemTask<B>,
     numbers: &[i64],

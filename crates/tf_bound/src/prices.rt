@@ -9,8 +9,7 @@ ghost use Rattle.tf_model.specs.Whole.{IsWithin};
 ghost use Rattle.tf_posed.specs.ProblemData.{IsProblemJob, problem_jobs, problem_release};
 ghost use Rattle.tf_posed.specs.ProblemCost.{IsLowerBound};
 ghost use Rattle.tf_problem.specs.ProblemBounds.{is_alike, is_completion_goal, is_sum_goal};
-ghost use Rattle.tf_problem.specs.ProblemBounds.{horizon, numerator};
-ghost use Rattle.tf_problem.specs.ProblemBounds.{share_up, AreCheapest};
+ghost use Rattle.tf_problem.specs.ProblemBounds.{horizon, numerator, share_up, AreCheapest};
 ghost use Rattle.tf_bound.specs.Kinds.{takes_prices};
 ghost use Rattle.tf_bound.specs.Faulted.{are_prices_large, is_dear, prices_fault, too_large};
 ghost use Rattle.tf_bound.specs.Faulted.{NamesFault};
@@ -57,8 +56,8 @@ pub fn is_by_unit(goal: Goal) -> bool
     matches!(goal, Goal::SumU | Goal::SumWU)
 }
 
-// The cheapest start of a job, where what it costs is within the limit. `until` is when all jobs can
-// be over.
+// The cheapest start of a job, where what it costs is within the limit. `until` is when all jobs
+// can be over.
 fn cheapest_of<A: Allocator>(
     task: &ProblemTask<A>,
     until: u64,

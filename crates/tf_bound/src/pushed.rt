@@ -1,9 +1,8 @@
 //! The task whose release dates and due dates follow by its arcs.
-ghost use Rattle.std.specs.Prelude.{◌≡◌, ◌*◌, ℕ, ℤ, List, ◌<◌, ◌≤◌, pos, ◌-ℤ◌, length, map, IfOk, IfSome, IsTrue};
-ghost use Rattle.std.specs.Prelude.{MatchOption, slice_index, slice_index_or};
+ghost use Rattle.std.specs.Prelude.{◌≡◌, ◌*◌, ℕ, ℤ, List, ◌<◌, ◌≤◌, pos, ◌-ℤ◌, length, map, IfOk};
+ghost use Rattle.std.specs.Prelude.{IfSome, IsTrue, MatchOption, slice_index, slice_index_or};
 ghost use Rattle.tf_model.specs.Limit.{limit};
-ghost use Rattle.tf_posed.specs.ProblemData.{ProblemData, IsProblemJob, problem_job};
-ghost use Rattle.tf_posed.specs.ProblemData.{problem_jobs};
+ghost use Rattle.tf_posed.specs.ProblemData.{ProblemData, IsProblemJob, problem_job, problem_jobs};
 ghost use Rattle.tf_posed.specs.ProblemCost.{IsLowerBound};
 ghost use Rattle.tf_problem.specs.ProblemBounds.{is_max_goal, problem_work};
 ghost use Rattle.tf_problem.specs.Pushed.{dated_goal, pushed, pushed_job};
@@ -103,7 +102,8 @@ fn numbers<A: Allocator, B: Allocator>(
     task: &ProblemTask<B>,
     number: Number,
 ) -> Result<Vec<u64, A>, OutOfMemory>
-    ensures { IfOk result (λ xs. xs.items ≡ map (number_by number task.now) (problem_jobs task.now)) }
+    ensures { IfOk result
+        (λ xs. xs.items ≡ map (number_by number task.now) (problem_jobs task.now)) }
 {
     let mut numbers = Vec::with_capacity(alloc, task.len())?;
     for k in 0..task.len() {

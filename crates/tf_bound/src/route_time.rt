@@ -5,7 +5,8 @@ ghost use Rattle.tf_model.specs.Limit.{limit};
 ghost use Rattle.tf_problem.specs.ProblemBounds.{before, behind};
 ghost use Rattle.tf_bound.specs.Route.{IsRouted};
 
-// The machines of a route before a machine and behind it; all of them and none where it is not there.
+// The machines of a route before a machine and behind it; all of them and none where it is not
+// there.
 fn parted(route: &[u32], machine: usize) -> (&[u32], &[u32])
     ensures before { before machine route.now ≡ result.0.now }
     ensures behind { behind machine route.now ≡ result.1.now }
@@ -31,7 +32,8 @@ fn time_on(times: &[u64], part: &[u32]) -> u64
     time
 }
 
-/// The time on the machines of a route before one of them; on the whole route where it is not there.
+/// The time on the machines of a route before one of them; on the whole route where it is not
+/// there.
 pub(crate) fn time_before(times: &[u64], route: &[u32], machine: usize) -> u64
     requires route { IsRouted (length times.now) times.now route.now }
     requires small { sum times.now ≤ limit }

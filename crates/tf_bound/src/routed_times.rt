@@ -1,6 +1,6 @@
 //! The processing times of a job of a job shop, and its route.
-ghost use Rattle.std.specs.Prelude.{◌≡◌, ◌↔◌, ℕ, ◌<◌, length, slice_index, slice_index_or, true, IfOk, IsTrue};
-ghost use Rattle.std.specs.Prelude.{false};
+ghost use Rattle.std.specs.Prelude.{◌≡◌, ◌↔◌, ℕ, ◌<◌, length, slice_index, slice_index_or, true};
+ghost use Rattle.std.specs.Prelude.{IfOk, IsTrue, false};
 ghost use Rattle.tf_bound.specs.Route.{IsRouted};
 
 use std::alloc::{AllocError, Allocator, Global};

@@ -1,6 +1,6 @@
 //! The bound of weighted completion times by prices of the rows, whether or not jobs are preempted:
-//! each row of a job is a cheapest one, and they are in the mean at least half of its processing time
-//! before its completion (Goemans, Queyranne, Schulz, Skutella and Wang 2002).
+//! each row of a job is a cheapest one, and they are in the mean at least half of its processing
+//! time before its completion (Goemans, Queyranne, Schulz, Skutella and Wang 2002).
 ghost use Rattle.std.specs.Prelude.{◌≡◌, ◌*◌, ◌≤◌, length, max, is_none, IfOk, IfSome, IsTrue};
 ghost use Rattle.std.specs.Prelude.{pos, ◌-ℤ◌, IsFalse};
 ghost use Rattle.std.specs.List.{list_any, sum_by};
@@ -21,8 +21,8 @@ use tf_model::ids::JobId;
 use tf_model::limit::LIMIT;
 use tf_problem::laws::row_prices_law;
 
-// What the cheapest row from the release date on costs a job: its slope for each row before, and its
-// time as often as the price of the row.
+// What the cheapest row from the release date on costs a job: its slope for each row before, and
+// its time as often as the price of the row.
 fn cheapest_row(prices: &[u64], release: u64, slope: u64, time: u64) -> u64
     requires { slope * max release (length prices.now) ≤ limit }
     ensures value { result ≡ least_row prices.now release slope time }
@@ -63,7 +63,8 @@ fn rows_cost<A: Allocator>(task: &ProblemTask<A>, q: u64, prices: &[u64], job: J
 fn all_rows_cost<A: Allocator>(task: &ProblemTask<A>, q: u64, prices: &[u64]) -> Option<u128>
     requires one_time { IsFalse (is_shop_env task.now.problem.env) }
     requires goal { IsTrue (is_completion_goal task.now.problem.goal) }
-    ensures dear { is_none result ≡ list_any (is_dear task.now q prices.now) (problem_jobs task.now) }
+    ensures dear { is_none result
+        ≡ list_any (is_dear task.now q prices.now) (problem_jobs task.now) }
     ensures value { IfSome result (λ total.
         total ≡ sum_by (rows_cost task.now q prices.now) (problem_jobs task.now)) }
     ensures small { IfSome result (λ total. total ≤ 200000 * limit) }

@@ -1,5 +1,5 @@
-//! The bound by two machines of a permutation flow shop, with the time lags between them (Mitten 1959;
-//! Lenstra, Rinnooy Kan and Lageweg 1977).
+//! The bound by two machines of a permutation flow shop, with the time lags between them (Mitten
+//! 1959; Lenstra, Rinnooy Kan and Lageweg 1977).
 ghost use Rattle.std.specs.Prelude.{◌≡◌, ℕ, ◌*◌, ◌<◌, ◌≤◌, not, length, None, Some, sum_by};
 ghost use Rattle.std.specs.Prelude.{IfNone, IfOk, IsTrue, MatchOption};
 ghost use Rattle.std.specs.List.{list_any};
@@ -37,8 +37,8 @@ pub struct Pair {
     pub by_first: bool,
 }
 
-/// Whether two machines bound a problem: the makespan or the maximum lateness, in a permutation flow
-/// shop.
+/// Whether two machines bound a problem: the makespan or the maximum lateness, in a permutation
+/// flow shop.
 pub fn takes_split<A: Allocator>(task: &ProblemTask<A>) -> bool
     ensures exact { result ≡ takes_split task.now.problem }
     ensures flow { IsTrue result → IsTrue (is_flow_env task.now.problem.env) }
@@ -68,7 +68,8 @@ fn reaches_delta<B: Allocator>(task: &ProblemTask<B>, pair: Pair, of_side: bool,
     requires pair { ArePair task.now pair.first pair.second }
     requires job { IsProblemJob task.now job }
     ensures { result
-        ≡ reaches_delta task.now pair.first pair.second (λ _. of_side) pair.delta pair.by_first job }
+        ≡ reaches_delta task.now pair.first pair.second (λ _. of_side) pair.delta pair.by_first
+        job }
 {
     if pair.by_first {
         !of_side && reaches(task, pair, pair.first, job)
@@ -153,7 +154,8 @@ fn work<B: Allocator>(task: &ProblemTask<B>, pair: Pair, marks: &[bool]) -> u128
     requires pair { ArePair task.now pair.first pair.second }
     requires len { length marks.now ≡ length task.now.jobs }
     ensures value { result
-        ≡ sum_by (counted task.now pair.first pair.second (marked marks.now)) (problem_jobs task.now) }
+        ≡ sum_by (counted task.now pair.first pair.second (marked marks.now))
+        (problem_jobs task.now) }
     ensures small { result ≤ length task.now.jobs * limit }
 {
     let mut work: u128 = 0;

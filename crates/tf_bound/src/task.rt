@@ -5,8 +5,7 @@ ghost use Rattle.std.specs.List.{All, sum_by};
 ghost use Rattle.tf_model.specs.ClassTable.{is_single_env, is_flow_env};
 ghost use Rattle.tf_model.specs.Limit.{limit};
 ghost use Rattle.tf_posed.specs.ProblemData.{ProblemData, is_covered, is_job_shop, needs_time};
-ghost use Rattle.tf_bound.specs.Refused.{IsCounted, IsFitJob, IsJobsFault};
-ghost use Rattle.tf_bound.specs.Refused.{IsTaskFault};
+ghost use Rattle.tf_bound.specs.Refused.{IsCounted, IsFitJob, IsJobsFault, IsTaskFault};
 ghost use Rattle.tf_bound.specs.Route.{IsRouted};
 ghost use Rattle.tf_bound.specs.Sized.{IsSized, IsSizedJob, task_of, work};
 
@@ -19,7 +18,8 @@ use tf_model::ids::JobId;
 use tf_model::limit::{LIMIT, MOST_JOBS, MOST_MACHINES};
 use tf_model::problem::{Env, Goal, Problem};
 
-/// A job: one time, or in a shop one for each machine, from the first on, and in a job shop a route.
+/// A job: one time, or in a shop one for each machine, from the first on, and in a job shop a
+/// route.
 #[derive(Drop)]
 pub struct ProblemJob<A: Allocator = Global> {
     pub times: JobTimes<A>,
@@ -143,7 +143,8 @@ pub(crate) fn sum_within(numbers: &[u64]) -> Option<u64>
 fn is_unrouted<A: Allocator>(problem: &Problem, job: &ProblemJob<A>) -> bool
     ensures routed { IsFalse result → IsTrue (is_job_shop problem.now.env) →
         IsRouted (length job.now.times) job.now.times job.now.route }
-    ensures some { IsFalse result → IsTrue (is_job_shop problem.now.env) → 1 ≤ length job.now.route }
+    ensures some { IsFalse result → IsTrue (is_job_shop problem.now.env) →
+        1 ≤ length job.now.route }
     ensures unfit { IsTrue result → (machines : ℕ) → ¬ (IsFitJob problem.now machines job.now) }
 {
     is_job_shop(problem.env) && !job.times.is_routed()

@@ -6,7 +6,8 @@ ghost use Rattle.tf_bound_text.specs.BoundReading.{Gives, machine_basis, crowd_b
 ghost use Rattle.tf_bound_text.specs.BoundReading.{multiplier_basis, price_basis, one_job_basis};
 ghost use Rattle.tf_bound_text.specs.BoundReading.{window_basis, alone_basis, kind_in, basis_in};
 ghost use Rattle.tf_bound_text.specs.BoundReading.{kept_basis, shortest_basis, ranks_basis};
-ghost use Rattle.tf_bound_text.specs.BoundReading.{parts_basis, machine_price_basis, is_first, split_basis, potentials_basis};
+ghost use Rattle.tf_bound_text.specs.BoundReading.{parts_basis, machine_price_basis, is_first};
+ghost use Rattle.tf_bound_text.specs.BoundReading.{split_basis, potentials_basis};
 
 use crate::fault::BoundTextFault;
 use crate::number::{

@@ -8,8 +8,7 @@ ghost use Rattle.tf_bound_text.specs.BoundSheetData.{basis_of};
 ghost use Rattle.tf_bound_text.specs.BoundReading.{Gives, next, word_at, heading_at, problem_in};
 ghost use Rattle.tf_bound_text.specs.BoundReading.{problem_at, count_at, value_at, certificate_at};
 ghost use Rattle.tf_bound_text.specs.BoundReading.{arcs_in, arcs_at, multipliers_at, with_arcs};
-ghost use Rattle.tf_bound_text.specs.BoundReading.{is_end, end_at};
-ghost use Rattle.tf_bound_text.specs.BoundReading.{bound_at, sheet_of, bound_in};
+ghost use Rattle.tf_bound_text.specs.BoundReading.{is_end, end_at, bound_at, sheet_of, bound_in};
 
 use crate::certificate::certificate_in;
 use crate::fault::BoundTextFault;

@@ -1,5 +1,6 @@
 //! The times of a shop among the words of a flow shop file, which is gone through once.
-ghost use Rattle.std.specs.Prelude.{◌≡◌, ◌≢◌, ◌*◌, ◌<◌, ◌≤◌, ◌∷◌, [], drop, length, IfOk, MatchOption};
+ghost use Rattle.std.specs.Prelude.{◌≡◌, ◌≢◌, ◌*◌, ◌<◌, ◌≤◌, ◌∷◌, [], drop, length, IfOk};
+ghost use Rattle.std.specs.Prelude.{MatchOption};
 ghost use Rattle.tf_words.specs.Words.{words, lines};
 ghost use Rattle.tf_read.specs.FlowShop.{is_name_line};
 ghost use Rattle.tf_bounding.specs.ShopTimes.{times_by_machine};

@@ -130,7 +130,8 @@ fn self_timed_read<A: Allocator + Copy, B: Allocator, R: Read>(
     form: &Form<B>,
     reader: &mut Counted<R>,
 ) -> Result<TimedInstance<A>, RunFault<A>>
-    ensures { ReadsTo (self_timed_said (form_of form.now)) R.remaining reader.old reader.new result }
+    ensures { ReadsTo (self_timed_said (form_of form.now)) R.remaining reader.old reader.new
+        result }
 {
     let instance = instance_read(alloc, form, reader)?;
     Ok(TimedInstance::self_timed(instance))

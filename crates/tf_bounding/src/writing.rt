@@ -3,8 +3,7 @@ ghost use Rattle.std.specs.Prelude.{◌≡◌, [], ◌∷◌, ◌++◌, codes, l
 ghost use Rattle.std.specs.List.{flat_map};
 ghost use Rattle.tf_text.specs.AnswerText.{line_text};
 ghost use Rattle.std.specs.Fmt.{decimal, signed_decimal};
-ghost use Rattle.tf_bounding.specs.BoundText.{arc_lines, certificate_lines, bound_text};
-ghost use Rattle.tf_bounding.specs.BoundText.{which_word};
+ghost use Rattle.tf_bounding.specs.BoundText.{arc_lines, certificate_lines, bound_text, which_word};
 
 use std::alloc::Allocator;
 use tf_bound::certificate::BoundCertificate;

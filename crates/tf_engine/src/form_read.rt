@@ -70,7 +70,8 @@ pub fn flow_read<A: Allocator + Copy, R: Read>(
     pair: Option<(u32, u32)>,
     reader: &mut Counted<R>,
 ) -> Result<InstanceNumbers<A>, RunFault<A>>
-    ensures { ReadsTo (instance_said (InFlow name.now pair)) R.remaining reader.old reader.new result }
+    ensures { ReadsTo (instance_said (InFlow name.now pair)) R.remaining reader.old reader.new
+        result }
 {
     let mut flow = FlowReader::new(alloc, name, pair);
     drain(reader, &mut flow)?;

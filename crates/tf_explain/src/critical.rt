@@ -61,9 +61,9 @@ pub(crate) const OTHERS: &str =
     "By so much can each other operation start later, with the same value:";
 
 /// A critical path of a schedule that fits, with the reason why each of its operations does not
-/// start earlier, and by how much each other operation can start later without a greater value. Only
-/// of job shops and flow shops whose makespan or maximum lateness is minimized, without preemption
-/// and with waiting.
+/// start earlier, and by how much each other operation can start later without a greater value.
+/// Only of job shops and flow shops whose makespan or maximum lateness is minimized, without
+/// preemption and with waiting.
 pub(crate) fn explain_critical(
     page: &mut Page,
     task: &ProblemTask,
@@ -265,14 +265,15 @@ pub(crate) fn push_length(
     let value = found.value;
     write!(
         text,
-        "It lasts from {start} to {stop}. Job {job} is due at {due}, so the maximum lateness is {value}."
+        "It lasts from {start} to {stop}. Job {job} is due at {due}, so the maximum lateness is \
+         {value}."
     )
 }
 
 // ---- the other operations
 
-// The latest start of each operation with which no operation that has to follow is later than it may
-// be for the value.
+// The latest start of each operation with which no operation that has to follow is later than it
+// may be for the value.
 fn latest_starts(
     alloc: Global,
     task: &ProblemTask,

@@ -312,7 +312,8 @@ fn say_order(page: &mut Page, case: &Case<'_>, before: u32, after: u32) -> Resul
     case.quote_arc(page, before, after)?;
     if before == after {
         return page.say(
-            "This precedence constraint makes a job wait for itself, so no schedule fits: delete it.",
+            "This precedence constraint makes a job wait for itself, so no schedule fits: delete \
+             it.",
         );
     }
     writeln!(

@@ -1,5 +1,5 @@
-//! The working of a rule that gives the optimum: late jobs on one machine, and completion times with
-//! preemption, on one machine with release dates or on identical machines.
+//! The working of a rule that gives the optimum: late jobs on one machine, and completion times
+//! with preemption, on one machine with release dates or on identical machines.
 use std::alloc::{AllocError, Global};
 use tf_advice::page::Page;
 use tf_bound::task::ProblemTask;
@@ -178,7 +178,8 @@ fn taken_out(jobs: &mut [Open], last: usize) -> Open {
 fn run_shortest(board: &mut Board, jobs: Vec<Open>) -> Result<(), AllocError> {
     let runs = shortest_runs(board.alloc, jobs)?;
     board.say(
-        "Of the released jobs the one of the shortest remaining processing time runs (Schrage 1968):",
+        "Of the released jobs the one of the shortest remaining processing time runs (Schrage \
+         1968):",
     )?;
     board.table.begin(&["job", "from", "to", "left"])?;
     let mut total: u64 = 0;
@@ -197,8 +198,8 @@ fn run_shortest(board: &mut Board, jobs: Vec<Open>) -> Result<(), AllocError> {
     board.show()?;
     write!(
         board.text,
-        "The completion times come to {total}. No schedule has a smaller sum: at each time no other \
-         has more jobs completed."
+        "The completion times come to {total}. No schedule has a smaller sum: at each time no \
+         other has more jobs completed."
     )?;
     board.end_sentence()
 }

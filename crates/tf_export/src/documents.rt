@@ -249,7 +249,8 @@ impl Json {
 
     /// Adds `null` for each name that begins no line.
     fn unknown(&mut self, names: &[u8], text: &[u8]) -> Result<(), OutOfMemory>
-        ensures { OnOk result (Adds self.old self.new (unknown (words names.now) (lines text.now))) }
+        ensures { OnOk result
+            (Adds self.old self.new (unknown (words names.now) (lines text.now))) }
     {
         let mut left = names;
         while let Some((name, more)) = first_word(left) {

@@ -107,8 +107,8 @@ impl Json {
         Ok(())
     }
 
-    /// Adds the members that begin each object: the version, and the number of the instance that it is
-    /// about, where it is about one of several.
+    /// Adds the members that begin each object: the version, and the number of the instance that it
+    /// is about, where it is about one of several.
     pub(crate) fn heading(&mut self, instance: Option<u32>) -> Result<(), OutOfMemory>
         ensures { OnOk result (Adds self.old self.new (heading instance)) }
     {
@@ -146,7 +146,8 @@ impl Json {
         name: &[u8],
         row: &[u8],
     ) -> Result<(), OutOfMemory>
-        ensures { OnOk result (Adds self.old self.new (member name.now (said (words row.now)) ∷ [])) }
+        ensures { OnOk result
+            (Adds self.old self.new (member name.now (said (words row.now)) ∷ [])) }
     {
         self.name(name)?;
         push_said(alloc, &mut self.text, row)?;

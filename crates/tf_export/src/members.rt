@@ -2,10 +2,9 @@
 ghost use Rattle.std.specs.Prelude.{◌≡◌, ◌∷◌, [], codes, length, OnOk};
 ghost use Rattle.tf_words.specs.Words.{words};
 ghost use Rattle.tf_export.specs.Members.{certificate_names, answer_list, bound_list, certificate};
-ghost use Rattle.tf_export.specs.Members.{arc_members};
-ghost use Rattle.tf_export.specs.Members.{answer_certificate, is_bound_kind, is_plain_key, verdict};
-ghost use Rattle.tf_export.specs.Members.{verdict_members, keyed_members, line_members};
-ghost use Rattle.tf_export.specs.Members.{bounding_members, fault_name, named_value};
+ghost use Rattle.tf_export.specs.Members.{arc_members, answer_certificate, is_bound_kind};
+ghost use Rattle.tf_export.specs.Members.{is_plain_key, verdict, verdict_members, keyed_members};
+ghost use Rattle.tf_export.specs.Members.{line_members, bounding_members, fault_name, named_value};
 
 use crate::json::Json;
 use crate::line::count_words;

@@ -4,8 +4,7 @@ ghost use Rattle.std.specs.List.{flat_map};
 ghost use Rattle.tf_words.specs.Words.{words, lines};
 ghost use Rattle.tf_export.specs.OrderRows.{first_word_of, labelled_row, order_cells, order_row};
 ghost use Rattle.tf_export.specs.OrderRows.{blank_cells, heading, orders_csv, plain_row, quoted};
-ghost use Rattle.tf_export.specs.OrderRows.{quoted_byte, value_cell};
-ghost use Rattle.tf_export.specs.OrderRows.{rated_cells, unrated_cells};
+ghost use Rattle.tf_export.specs.OrderRows.{quoted_byte, value_cell, rated_cells, unrated_cells};
 
 use crate::line::{behind_first, behind_heading, next_line};
 use crate::orders::{colon_in, standing_of};
@@ -204,8 +203,8 @@ fn heading(is_measured: bool) -> &'static [u8]
 }
 
 /// A table of orders: a heading, and a row for each. Behind the first line the text has a line for
-/// each order: its number, perhaps a label and a colon, and what the order comes to, with its values
-/// by the other objectives where those are asked for.
+/// each order: its number, perhaps a label and a colon, and what the order comes to, with its
+/// values by the other objectives where those are asked for.
 ///
 /// # Errors
 ///

@@ -6,7 +6,8 @@
 ghost use Rattle.std.specs.Prelude.{◌≡◌, ◌∷◌, [], OnOk};
 ghost use Rattle.std.specs.List.{position};
 ghost use Rattle.tf_words.specs.Words.{words};
-ghost use Rattle.tf_export.specs.Orders.{is_colon, labelled, order_in, order_members, order_outcome};
+ghost use Rattle.tf_export.specs.Orders.{is_colon, labelled, order_in, order_members};
+ghost use Rattle.tf_export.specs.Orders.{order_outcome};
 ghost use Rattle.tf_export.specs.Orders.{rated, row_of, standing_of, unlabelled, unrated};
 
 use crate::json::Json;

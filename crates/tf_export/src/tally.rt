@@ -3,9 +3,9 @@ ghost use Rattle.std.specs.Prelude.{◌≡◌, ◌++◌, ◌+◌, ◌*◌, ◌/�
 ghost use Rattle.std.specs.List.{count_by, flat_map, position, sum_by};
 ghost use Rattle.tf_words.specs.Words.{words, lines};
 ghost use Rattle.tf_export.specs.Tally.{behind_blank, count_line, counts, gap_of, gap_or_zero};
-ghost use Rattle.tf_export.specs.Tally.{hundredths, is_counted, is_rated, is_wrong, mean, mean_line};
-ghost use Rattle.tf_export.specs.Tally.{reasons, standings};
-ghost use Rattle.tf_export.specs.Tally.{name_of, summarized, summary_of, summary_text, unnumbered};
+ghost use Rattle.tf_export.specs.Tally.{hundredths, is_counted, is_rated, is_wrong, mean};
+ghost use Rattle.tf_export.specs.Tally.{mean_line, reasons, standings, name_of, summarized};
+ghost use Rattle.tf_export.specs.Tally.{summary_of, summary_text, unnumbered};
 
 use crate::line::{behind_first, behind_heading, first_of, next_line};
 use crate::orders::{row_of, standing_of};

@@ -24,8 +24,8 @@ const HEAT: i128 = 61;
 // The natural logarithm of 2 in units of 1/1,024.
 const LOGARITHM_OF_TWO: i128 = 710;
 
-/// Whether insertions are costed by heads and tails: for a maximum on one machine or in a flow shop,
-/// without arcs and waits, where no sum leaves 64 bits.
+/// Whether insertions are costed by heads and tails: for a maximum on one machine or in a flow
+/// shop, without arcs and waits, where no sum leaves 64 bits.
 pub(crate) fn is_by_insertion<B: Allocator>(table: &TaskTable<B>) -> bool {
     let is_serial = matches!(table.decoder, Decoder::Machine | Decoder::Flow);
     let is_maximum = matches!(table.measure, Measure::MaximumLateness);
@@ -244,8 +244,8 @@ impl<A: Allocator> Greedy<A> {
         }
     }
 
-    // Takes a job out and inserts it at its best place, or at its old one if that is better. Returns
-    // whether the list costs less then.
+    // Takes a job out and inserts it at its best place, or at its old one if that is better.
+    // Returns whether the list costs less then.
     fn reinsert(&mut self, job: usize) -> bool {
         let place = self.place_of(job);
         self.take(place);

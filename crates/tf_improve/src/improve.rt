@@ -22,8 +22,8 @@ pub struct SearchEffort {
     pub target: Option<i128>,
 }
 
-/// A list that costs no more by its decoder than the one that it begins with. It has the same items,
-/// and keeps the arcs where the first one does. Very long lists are returned as they are.
+/// A list that costs no more by its decoder than the one that it begins with. It has the same
+/// items, and keeps the arcs where the first one does. Very long lists are returned as they are.
 pub fn improved<A: Allocator + Copy, B: Allocator, W: Watch>(
     alloc: A,
     table: &TaskTable<B>,

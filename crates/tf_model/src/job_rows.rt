@@ -57,7 +57,8 @@ impl Model for JobRow {
         } };
 }
 
-/// The numbers of the jobs, in the order of the jobs. A column that the class does not use is empty.
+/// The numbers of the jobs, in the order of the jobs. A column that the class does not use is
+/// empty.
 #[derive(Drop)]
 pub(crate) struct JobRows<A: Allocator> {
     firsts: Vec<u64, A>,

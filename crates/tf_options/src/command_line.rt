@@ -23,8 +23,8 @@ pub fn understand<'a>(
     on_terminal: bool,
 ) -> CommandLine<'a>
     ensures columns { HasColumns result.asked }
-    ensures understood { IsUnderstood (app_of command.entry) (map string_bytes words.now) on_terminal
-        result.asked }
+    ensures understood { IsUnderstood (app_of command.entry) (map string_bytes words.now)
+        on_terminal result.asked }
     ensures output { IfSome result.output
         (λ name. IsOutputIn (app_of command.entry) (map string_bytes words.now) name.now) }
 {

@@ -11,8 +11,8 @@ use tf_asked::format::Format;
 use tf_asked::options::{Options, OrderSource, Work};
 use tf_export::documents::Document;
 
-/// Work with its output in this format: a list of orders with the numbers of their lines, from which
-/// each format of such a list is made.
+/// Work with its output in this format: a list of orders with the numbers of their lines, from
+/// which each format of such a list is made.
 pub(crate) fn work_in_format(work: Work<'_>, format: Format) -> Asked<'_>
     requires { IsSized work }
     ensures columns { HasColumns result }

@@ -6,11 +6,10 @@ ghost use Rattle.tf_asked.specs.Columns.{IsSized};
 ghost use Rattle.tf_options.specs.Columns.{HasColumns};
 ghost use Rattle.tf_options.specs.FormatAsked.{IsFormatBy, IsSolvedLayoutBy, asked_in_format};
 ghost use Rattle.tf_options.specs.FormatAsked.{csv_format, json_format};
-ghost use Rattle.tf_options.specs.Matched.{AreIdleBy, AreOptionsBy, IsFlagBy};
-ghost use Rattle.tf_options.specs.Matched.{IsFormBy, IsNumberBy, IsPairBy, IsToldInstead};
-ghost use Rattle.tf_options.specs.Matched.{explains_by, flow_fault, form_fault, given_of, job_shop_fault};
-ghost use Rattle.tf_options.specs.Matched.{has_arithmetic, is_latex, lacks, layout_by};
-ghost use Rattle.tf_options.specs.Matched.{lists_bounded};
+ghost use Rattle.tf_options.specs.Matched.{AreIdleBy, AreOptionsBy, IsFlagBy, IsFormBy, IsNumberBy};
+ghost use Rattle.tf_options.specs.Matched.{IsPairBy, IsToldInstead, explains_by, flow_fault};
+ghost use Rattle.tf_options.specs.Matched.{form_fault, given_of, job_shop_fault, has_arithmetic};
+ghost use Rattle.tf_options.specs.Matched.{is_latex, lacks, layout_by, lists_bounded};
 ghost use Rattle.tf_options.specs.Matched.{machines_fault, most_steps, options_fault, pair_in};
 ghost use Rattle.tf_options.specs.Matched.{pair_fault, steps_fault, wt_fault};
 ghost use Rattle.tf_options.specs.OptionNumber.{numeral_in};
@@ -324,7 +323,8 @@ pub(crate) fn steps_in(given: &ArgMatches<'_>) -> Result<Option<u32>, Wrong>
 
 // The orders that are to be evaluated, if any are.
 pub(crate) fn orders_in<'a>(given: &ArgMatches<'a>) -> Option<OrderSource<'a>>
-    ensures { MatchOption result (HasNoOrder (given_of given.now)) (IsOrderBy (given_of given.now)) }
+    ensures { MatchOption result (HasNoOrder (given_of given.now))
+        (IsOrderBy (given_of given.now)) }
 {
     if let Some(order) = given.get_str("order") {
         return Some(OrderSource::Given(order, detail_in(given)));

@@ -5,8 +5,9 @@ ghost use Rattle.tf_options.specs.Columns.{HasColumns};
 ghost use Rattle.tf_options.specs.Matched.{IsToldInstead, given_of, lacks, number_by};
 ghost use Rattle.tf_options.specs.SeriesAsked.{AsksMore, IsFileFormBy, IsLineEach, IsSeriesAsked};
 ghost use Rattle.tf_options.specs.SeriesAsked.{IsSeriesBy, IsToldBy, file_fault, is_of_several};
-ghost use Rattle.tf_options.specs.SeriesAsked.{jobs_fault, lacks_answers, lacks_names, series_fault};
-ghost use Rattle.tf_options.specs.SeriesAsked.{span_between, span_for, span_in, span_of, takes_span};
+ghost use Rattle.tf_options.specs.SeriesAsked.{jobs_fault, lacks_answers, lacks_names};
+ghost use Rattle.tf_options.specs.SeriesAsked.{series_fault, span_between, span_for, span_in};
+ghost use Rattle.tf_options.specs.SeriesAsked.{span_of, takes_span};
 ghost use Rattle.tf_options.specs.Understood.{IsOrderBy, answer_fault, own_fault, rating_fault};
 
 use crate::aids::{aids_in, is_standard_input, rating_aids_in};
@@ -121,7 +122,8 @@ fn file_form_in(given: &ArgMatches<'_>) -> Result<FileForm, Wrong>
 
 // The name of the answers, which cannot be standard input beside the instances.
 fn answers_in<'a>(given: &ArgMatches<'a>) -> Result<&'a str, Wrong>
-    ensures given { IfOk result (λ name. (given_of given.now).value (codes "ANSWER") ≡ Some name.now) }
+    ensures given { IfOk result
+        (λ name. (given_of given.now).value (codes "ANSWER") ≡ Some name.now) }
     ensures unhurt { IfOk result (λ _. answer_fault (given_of given.now) ≡ None) }
     ensures fault { IfErr result (IsToldInstead (lacks (given_of given.now) (codes "ANSWER"))
         (answer_fault (given_of given.now))) }
@@ -156,7 +158,7 @@ fn told_in<'a>(name: &str, given: &ArgMatches<'a>) -> Result<Told<'a>, Wrong>
     Ok(Told::Answers(answers, aids_in(given)?))
 }
 
-// What is told of each instance by the orders that are given, which are those of a rule or of a
+// What is said of each instance for the orders that are given, which are those of a rule or of a
 // text.
 fn rated_in<'a>(given: &ArgMatches<'a>, orders: &OrderSource<'a>) -> Result<Told<'a>, Wrong>
     requires each { IsLineEach (given_of given.now) }
@@ -203,7 +205,8 @@ fn series_in<'a>(name: &str, given: &ArgMatches<'a>, span: Span) -> Result<Serie
     requires each { IsLineEach (given_of given.now) }
     ensures given { IfOk result (IsSeriesBy name.now (given_of given.now)) }
     ensures fault { IfErr result
-        (IsToldInstead (lacks_names (given_of given.now) || lacks_answers name.now (given_of given.now))
+        (IsToldInstead
+        (lacks_names (given_of given.now) || lacks_answers name.now (given_of given.now))
         (series_fault name.now (given_of given.now))) }
 {
     let (Some(problem), Some(input)) = (given.get_str("problem"), given.get_str("INPUT")) else {

@@ -6,8 +6,8 @@ ghost use Rattle.tf_options.specs.Matched.{IsToldInstead, given_of, lacks, numbe
 ghost use Rattle.tf_options.specs.OptionNumber.{numeral_in};
 ghost use Rattle.tf_options.specs.Understood.{IsWorkBy, lacks_drawing};
 ghost use Rattle.tf_options.specs.Viewing.{IsDrawingBy, IsPicturingBy, IsViewBy, drawing_fault};
-ghost use Rattle.tf_options.specs.Viewing.{gantt_fault, most_side, number_fault, page_by, picturing_fault};
-ghost use Rattle.tf_options.specs.Viewing.{sides_fault, size_by, view_fault};
+ghost use Rattle.tf_options.specs.Viewing.{gantt_fault, most_side, number_fault, page_by};
+ghost use Rattle.tf_options.specs.Viewing.{picturing_fault, sides_fault, size_by, view_fault};
 
 use crate::options::{form_in, idle_in, is_explained, number_within};
 use crate::wrong::Wrong;
@@ -131,7 +131,8 @@ fn time_in(
     least: u32,
     told: &'static str,
 ) -> Result<Option<u64>, Wrong>
-    ensures given { IfOk result (λ time. time ≡ number_by (given_of given.now) name.now least limit) }
+    ensures given { IfOk result
+        (λ time. time ≡ number_by (given_of given.now) name.now least limit) }
     ensures unhurt { IfOk result (λ _. number_fault (given_of given.now) name.now least limit
         told.now ≡ None) }
     ensures fault { IfErr result (IsToldInstead false
@@ -181,7 +182,8 @@ fn side_in(
     name: &'static str,
     told: &'static str,
 ) -> Result<Option<u32>, Wrong>
-    ensures given { IfOk result (λ side. side ≡ number_by (given_of given.now) name.now 1 most_side) }
+    ensures given { IfOk result
+        (λ side. side ≡ number_by (given_of given.now) name.now 1 most_side) }
     ensures unhurt { IfOk result (λ _. number_fault (given_of given.now) name.now 1 most_side
         told.now ≡ None) }
     ensures fault { IfErr result (IsToldInstead false

@@ -1,4 +1,5 @@
-//! The schedule that rules and a search find. Nothing is promised of it: whoever takes it judges it.
+//! The schedule that rules and a search find. Nothing is promised of it: whoever takes it judges
+//! it.
 use crate::progress::{PlanProgress, Watched};
 use std::alloc::Allocator;
 use std::cmp::Reverse;

@@ -25,9 +25,9 @@ use tf_text::counted::Counted;
 /// Reads an instance to its end, searches for a schedule of its task and for the strongest lower
 /// bound, and writes the schedule as an answer text, with the bound behind it in comments.
 ///
-/// The refusals come in the order of [`tf_bounding::run_bound::run_bound`], and after them a cycle of
-/// the arcs. After a refusal nothing was written, unless it is [`RunFault::Device`], after which a
-/// prefix of the text may have been.
+/// The refusals come in the order of [`tf_bounding::run_bound::run_bound`], and after them a cycle
+/// of the arcs. After a refusal nothing was written, unless it is [`RunFault::Device`], after which
+/// a prefix of the text may have been.
 pub fn run_plan<
     A: Allocator + Copy,
     B: Allocator,

@@ -6,8 +6,8 @@ ghost use Rattle.tf_model.specs.Prepare.{agreed};
 ghost use Rattle.tf_bound.specs.JobTimes.{listed, route_in};
 ghost use Rattle.tf_prepare.specs.Preparing.{uses_weight, uses_due, count_in, machines_in};
 ghost use Rattle.tf_prepare.specs.Preparing.{has_wrong_times_in, wrong_times_in, lacking_in};
-ghost use Rattle.tf_prepare.specs.Preparing.{missing_in, idle_in, jobs_refusal_in, job_in, jobs_in, plain_in};
-ghost use Rattle.tf_prepare.specs.Preparing.{task_in, prepared_in, PreparesIn, IsOfSize};
+ghost use Rattle.tf_prepare.specs.Preparing.{missing_in, idle_in, jobs_refusal_in, job_in, jobs_in};
+ghost use Rattle.tf_prepare.specs.Preparing.{plain_in, task_in, prepared_in, PreparesIn, IsOfSize};
 
 use crate::routed::prepare_routed;
 use crate::timed::{TimedInstance, as_time};

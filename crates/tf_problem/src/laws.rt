@@ -5,8 +5,7 @@ ghost use Rattle.tf_problem.specs.ProblemLaws.{CertificateLaw, BestLaw, Relaxati
 ghost use Rattle.tf_problem.specs.ProblemLaws.{WindowLaw, CrowdLaw, OneJobLaw, MachineLaw};
 ghost use Rattle.tf_problem.specs.ProblemLaws.{MultiplierLaw, PricesLaw, CheapestLaw, AloneLaw};
 ghost use Rattle.tf_problem.specs.ProblemLaws.{RowPricesLaw};
-ghost use Rattle.tf_problem.specs.Kept.{KeptBestLaw, KeptLaw};
-ghost use Rattle.tf_problem.specs.Kept.{KeptWeightBestLaw, KeptWeightLaw};
+ghost use Rattle.tf_problem.specs.Kept.{KeptBestLaw, KeptLaw, KeptWeightBestLaw, KeptWeightLaw};
 ghost use Rattle.tf_problem.specs.Shortest.{ShortestBestLaw, ShortestLaw};
 ghost use Rattle.tf_problem.specs.Ranks.{RankBestLaw, RankLaw};
 ghost use Rattle.tf_problem.specs.Parts.{PartsLaw};
@@ -134,8 +133,8 @@ pub fn rank_best_law()
     ensures { RankBestLaw }
 {}
 
-/// A lower bound of the makespan or the maximum lateness by the work that some jobs have to do in one
-/// interval (energetic reasoning: Erschler, Lopez and Thuriot 1991).
+/// A lower bound of the makespan or the maximum lateness by the work that some jobs have to do in
+/// one interval (energetic reasoning: Erschler, Lopez and Thuriot 1991).
 pub fn parts_law()
     ensures { PartsLaw }
 {}

@@ -160,8 +160,8 @@ fn machines_of(problem: &Problem, machines: Option<u32>) -> u32
     }
 }
 
-// About how long so many jobs take of at most so many time steps: half of that each, on all machines
-// where they are parallel.
+// About how long so many jobs take of at most so many time steps: half of that each, on all
+// machines where they are parallel.
 fn work_of(problem: &Problem, jobs: u32, machines: u32, most: u32) -> u64
     ensures { result ≡ work_of problem.now jobs machines most }
 {

@@ -10,7 +10,8 @@ use tf_read::fault::ReadFault;
 type Read = Result<RoutedInstance<Global>, ReadFault>;
 
 const SHOP: &[u8] =
-    b" instance a\n 1 2\n 0 9 1 9\n instance b\n on three machines\n 2 3\n 2 1 0 3 1 6\n 1 8\n 2 5 0 0\n";
+    b" instance a\n 1 2\n 0 9 1 9\n instance b\n on three machines\n 2 3\n 2 1 0 3 1 6\n 1 8\n \
+    2 5 0 0\n";
 
 const TABLE: &[u8] =
     b"table 1\nmachines 3\njob 1 d=9 p=3@2,5@1,4@3\n# p=@\njob 2 p=7 w=2\njob 3 p=1@3\n";

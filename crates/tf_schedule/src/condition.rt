@@ -157,8 +157,8 @@ fn is_plain<T: Asks, B: Allocator>(
         && (problem.prmp || Condition::Unbroken.is_met(task, is_shop, jobs, operations, job))
 }
 
-/// Whether each job has its time, is unbroken and is released, as far as the problem asks for it, in
-/// one walk over the jobs.
+/// Whether each job has its time, is unbroken and is released, as far as the problem asks for it,
+/// in one walk over the jobs.
 pub(crate) fn are_plain<T: Asks, B: Allocator>(
     task: &T,
     jobs: &Lanes<B>,

@@ -68,8 +68,8 @@ impl From<memory::OutOfMemory> for Misfit {
 }
 
 /// Whether the pieces draw a timetable that fits the task, or else the first misfit in the order of
-/// [`Misfit`]. It takes memory for a few numbers for each job, and in a shop for each operation; and
-/// for a copy of the pieces in a shop, and where a job has one between two others.
+/// [`Misfit`]. It takes memory for a few numbers for each job, and in a shop for each operation;
+/// and for a copy of the pieces in a shop, and where a job has one between two others.
 pub fn fits<A: Allocator + Copy, B: Allocator, C: Allocator>(
     alloc: A,
     task: &Task<B>,

@@ -1,6 +1,5 @@
 //! How a schedule stands to a task.
-ghost use Rattle.std.specs.Prelude.{◌≡◌, ◌↔◌, ◌<◌, ◌≤◌, length, List, IfOk, IsTrue};
-ghost use Rattle.std.specs.Prelude.{MatchOption};
+ghost use Rattle.std.specs.Prelude.{◌≡◌, ◌↔◌, ◌<◌, ◌≤◌, length, List, IfOk, IsTrue, MatchOption};
 ghost use Rattle.std.specs.List.{All};
 ghost use Rattle.tf_posed.specs.FitsProblem.{FitsProblem};
 ghost use Rattle.tf_schedule.specs.Asks.{IsLimited};
@@ -65,7 +64,7 @@ pub fn judge<A: Allocator + Copy, B: Allocator, C: Allocator>(
     Ok(Judged { fit, lanes: jobs })
 }
 
-// A misfit of a task of a class, as it is told of one.
+// A misfit of a task of a class, by the name that it has there.
 fn of_class(misfit: ProblemMisfit) -> Misfit
     ensures { result ≡ of_class misfit }
 {

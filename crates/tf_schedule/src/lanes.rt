@@ -109,9 +109,9 @@ pub(crate) fn empty_lanes<A: Allocator + Copy>(
     Ok(Lanes { extents, machines })
 }
 
-/// When each of the jobs works, and where if that is asked for, and whether each piece lies before or
-/// after all earlier ones of its job: then no job runs in two places. Pieces of other jobs are left
-/// out.
+/// When each of the jobs works, and where if that is asked for, and whether each piece lies before
+/// or after all earlier ones of its job: then no job runs in two places. Pieces of other jobs are
+/// left out.
 pub(crate) fn lanes_of<A: Allocator + Copy>(
     alloc: A,
     jobs: usize,

@@ -5,8 +5,8 @@ ghost use Rattle.tf_schedule.specs.MachineRange.{range_at, with_machine};
 use crate::piece::Piece;
 use tf_model::ids::JobId;
 
-/// The lowest machine that the pieces of a job are on, and the highest: `u32::MAX` and 0 where it has
-/// none.
+/// The lowest machine that the pieces of a job are on, and the highest: `u32::MAX` and 0 where it
+/// has none.
 #[derive(Clone, Copy)]
 pub struct MachineRange {
     pub lowest: u32,

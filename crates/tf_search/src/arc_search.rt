@@ -45,7 +45,8 @@ struct Item {
     due: i128,
     own: i128,
     best: i128,
-    // Its own multiplier and those of the arcs from it, those of the arcs to it, and the difference.
+    // Its own multiplier and those of the arcs from it, those of the arcs to it, and the
+    // difference.
     income: i128,
     taken: i128,
     moved: i128,

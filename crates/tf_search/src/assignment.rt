@@ -1,6 +1,6 @@
 //! The potentials of a no-wait flow shop: those of a cheapest assignment of jobs to the jobs after
-//! them (Kuhn 1955), by shortest augmenting paths (Jonker and Volgenant 1987). Nothing is promised of
-//! them: the judge computes what they bound.
+//! them (Kuhn 1955), by shortest augmenting paths (Jonker and Volgenant 1987). Nothing is promised
+//! of them: the judge computes what they bound.
 ghost use Rattle.std.specs.Prelude.{length, ◌≤◌, IsTrue};
 ghost use Rattle.tf_model.specs.ClassTable.{is_flow_env};
 
@@ -238,8 +238,8 @@ fn turn(columns: &mut [Column], last: usize) {
     }
 }
 
-// The number for the end, and then for each job those of its row and of its column. The potentials of
-// the rows are taken less that of the first, and those of the columns more.
+// The number for the end, and then for each job those of its row and of its column. The potentials
+// of the rows are taken less that of the first, and those of the columns more.
 fn numbers_of<A: Allocator>(
     alloc: A,
     rows: &[i64],

@@ -13,8 +13,8 @@ use tf_bound::task::ProblemTask;
 use tf_model::ids::JobId;
 use tf_model::memory::OutOfMemory;
 
-// How many parts of jobs are looked at, about; and on one machine, where the bound by the machine is
-// mostly the optimum.
+// How many parts of jobs are looked at, about; and on one machine, where the bound by the machine
+// is mostly the optimum.
 const MOST_PARTS: usize = 4_000_000;
 
 const FEWER_PARTS: usize = 250_000;

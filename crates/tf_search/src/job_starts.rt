@@ -40,8 +40,8 @@ struct Start {
 }
 
 impl JobStarts {
-    /// The starts of a job up to row `rows` from which it is over by `until`, where what it costs over
-    /// q is within the limit.
+    /// The starts of a job up to row `rows` from which it is over by `until`, where what it costs
+    /// over q is within the limit.
     pub fn new<B: Allocator>(
         task: &ProblemTask<B>,
         job: JobId,

@@ -1,9 +1,9 @@
 //! The two machines of a permutation flow shop that bound it most, with a side of its jobs.
 //!
-//! On two machines alone, with the time lags between them, Mitten's order (1959) is the shortest: the
-//! jobs with no more time on the first machine by that time and their lag, rising, then the others by
-//! their time on the second and their lag, falling. The job on which its makespan depends shows the
-//! side. Nothing is promised of it: the judge computes what it bounds.
+//! On two machines alone, with the time lags between them, Mitten's order (1959) is the shortest:
+//! the jobs with no more time on the first machine by that time and their lag, rising, then the
+//! others by their time on the second and their lag, falling. The job on which its makespan depends
+//! shows the side. Nothing is promised of it: the judge computes what it bounds.
 ghost use Rattle.std.specs.Prelude.{IsTrue};
 ghost use Rattle.tf_model.specs.ClassTable.{is_flow_env};
 ghost use Rattle.tf_posed.specs.ProblemData.{IsProblemJob};

@@ -147,8 +147,8 @@ fn prices_along<A: Allocator + Copy, B: Allocator>(
     Ok((found, target))
 }
 
-/// The prices of the greatest value that steps find from a start, where no job is preempted. `target`
-/// is what a schedule costs.
+/// The prices of the greatest value that steps find from a start, where no job is preempted.
+/// `target` is what a schedule costs.
 pub fn search_prices<A: Allocator + Copy, B: Allocator, P: Progress>(
     alloc: A,
     task: &ProblemTask<B>,

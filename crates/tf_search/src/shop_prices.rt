@@ -147,8 +147,8 @@ fn task_on<A: Allocator + Copy, B: Allocator>(
     }
 }
 
-// A sum of completion times is one of tardiness, where due dates are what the jobs have to go behind
-// the machine.
+// A sum of completion times is one of tardiness, where due dates are what the jobs have to go
+// behind the machine.
 fn goal_alone(goal: Goal) -> Goal {
     match goal {
         Goal::SumC => Goal::SumT,
@@ -157,8 +157,8 @@ fn goal_alone(goal: Goal) -> Goal {
     }
 }
 
-// The jobs that have time on the machine, and one that does not matter and is released when they can
-// all be over: so the rows up to then are priced, and each job may start in any of them.
+// The jobs that have time on the machine, and one that does not matter and is released when they
+// can all be over: so the rows up to then are priced, and each job may start in any of them.
 fn jobs_on<A: Allocator + Copy, B: Allocator>(
     alloc: A,
     task: &ProblemTask<B>,

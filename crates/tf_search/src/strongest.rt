@@ -113,8 +113,8 @@ fn by_rule<A: Allocator + Copy, B: Allocator>(
     }
 }
 
-// Whether its bound is the optimum, so that nothing else is searched. On one machine without release
-// dates the multipliers of completion times are so too.
+// Whether its bound is the optimum, so that nothing else is searched. On one machine without
+// release dates the multipliers of completion times are so too.
 fn is_met_by_rule(problem: Problem) -> bool {
     let is_single = matches!(problem.env, Env::Single);
     if problem.prec || problem.prmu || problem.nwt {
@@ -127,8 +127,8 @@ fn is_met_by_rule(problem: Problem) -> bool {
     }
 }
 
-// The late jobs by the rule of Moore and Hodgson, or their weight by the table of Lawler and Moore, of
-// those that are released from some date on.
+// The late jobs by the rule of Moore and Hodgson, or their weight by the table of Lawler and Moore,
+// of those that are released from some date on.
 fn by_kept<A: Allocator + Copy, B: Allocator>(
     alloc: A,
     task: &ProblemTask<B>,
@@ -144,7 +144,8 @@ fn by_kept<A: Allocator + Copy, B: Allocator>(
     Ok(best)
 }
 
-// How many lists of jobs are judged by due date. Each takes a table where the late jobs are weighed.
+// How many lists of jobs are judged by due date. Each takes a table where the late jobs are
+// weighed.
 fn most_lists<B: Allocator>(task: &ProblemTask<B>) -> usize {
     let jobs = task.len().max(1);
     let most = MOST_COUNTED / jobs;
@@ -289,8 +290,8 @@ fn searched<T: Drop>(outcome: Result<T, BoundFault>) -> Result<Option<T>, OutOfM
 }
 
 // The makespan or the maximum lateness: one job and one machine; in a flow shop without waiting
-// potentials, and in a permutation flow shop two machines; on parallel machines windows and crowds; and
-// on one and on these the parts of jobs in one interval.
+// potentials, and in a permutation flow shop two machines; on parallel machines windows and crowds;
+// and on one and on these the parts of jobs in one interval.
 fn of_maximum<A: Allocator + Copy, B: Allocator>(
     alloc: A,
     task: &ProblemTask<B>,

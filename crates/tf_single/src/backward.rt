@@ -1,6 +1,5 @@
 //! Jobs that are taken one after another, each to go last of those that are left.
-ghost use Rattle.std.specs.Prelude.{◌≡◌, ◌⊎◌, ℕ, ◌≤◌, ◌≤ℤ◌, ◌<ℤ◌, []};
-ghost use Rattle.std.specs.Prelude.{IfSome, MatchResult, Some};
+ghost use Rattle.std.specs.Prelude.{◌≡◌, ◌⊎◌, ℕ, ◌≤◌, ◌≤ℤ◌, ◌<ℤ◌, [], IfSome, MatchResult, Some};
 ghost use Rattle.tf_model.specs.Limit.{limit};
 ghost use Rattle.tf_model.specs.Sound.{IsSound};
 ghost use Rattle.tf_single.specs.Backward.{AreChosen, IsDearest, rest_of};

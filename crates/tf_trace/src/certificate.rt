@@ -49,8 +49,8 @@ fn say_bound(
         }
         Certificate::Ranks(_) => write!(
             board.text,
-            "In any schedule at most m processing times count once, at most m twice, and so on. The \
-             sum is least where the longest count least: {value}.",
+            "In any schedule at most m processing times count once, at most m twice, and so on. \
+             The sum is least where the longest count least: {value}.",
         ),
     }
 }
@@ -83,9 +83,9 @@ fn say_pairs(board: &mut Board, task: &Task, value: i128) -> Result<(), AllocErr
     }
     write!(
         board.text,
-        "Each job waits for its own processing time: the sum of wp is {own}. Of each two jobs, with \
-         w, p and w', p', one waits for the other, which costs at least the smaller of wp' and w'p, \
-         together {waiting}. {own} + {waiting} = {value}."
+        "Each job waits for its own processing time: the sum of wp is {own}. Of each two jobs, \
+         with w, p and w', p', one waits for the other, which costs at least the smaller of wp' \
+         and w'p, together {waiting}. {own} + {waiting} = {value}."
     )
 }
 
@@ -94,7 +94,8 @@ fn say_last(board: &mut Board, task: &Task, jobs: &[JobId], value: i64) -> Resul
     if let [job] = jobs {
         return write!(
             board.text,
-            "Job {} takes {work}. It completes at {work} or later, and costs at least {value} then.",
+            "Job {} takes {work}. It completes at {work} or later, and costs at least {value} \
+             then.",
             job.get()
         );
     }
@@ -134,8 +135,8 @@ fn say_window(board: &mut Board, task: &Task, jobs: &[JobId]) -> Result<(), Allo
         board.list("The jobs", jobs)?;
         write!(
             board.text,
-            " are released at {release} or later and take {work} together, and each is due at {due} \
-             or earlier: "
+            " are released at {release} or later and take {work} together, and each is due at \
+             {due} or earlier: "
         )?;
     }
     if due < 0 {
@@ -161,11 +162,11 @@ fn say_split(board: &mut Board, task: &Task, split: &Split) -> Result<(), AllocE
     let machine = if split.first { 1 } else { 2 };
     write!(
         board.text,
-        "The jobs of S count with their times on machine 1, together {first}, the others with those \
-         on machine 2, together {rest}. In any order let k be the {job} {delta} on machine \
-         {machine}: one after another, the jobs before k pass machine 1, k both machines, and those \
-         after k machine 2. Each takes at least what it counts, and k {delta} more: {first} + \
-         {rest} + {delta} = {sum}."
+        "The jobs of S count with their times on machine 1, together {first}, the others with \
+         those on machine 2, together {rest}. In any order let k be the {job} {delta} on machine \
+         {machine}: one after another, the jobs before k pass machine 1, k both machines, and \
+         those after k machine 2. Each takes at least what it counts, and k {delta} more: \
+         {first} + {rest} + {delta} = {sum}."
     )
 }
 

@@ -12,8 +12,8 @@ use tf_model::task::Task;
 pub(crate) fn write_johnson(board: &mut Board, task: &Task) -> Result<(), AllocError> {
     board.say(
         "Johnson's rule (Johnson 1954): first the jobs that take no longer on machine 1 than on \
-         machine 2, by rising time a on machine 1; then the others, by falling time b on machine 2; \
-         of equal times the smaller number first.",
+         machine 2, by rising time a on machine 1; then the others, by falling time b on machine \
+         2; of equal times the smaller number first.",
     )?;
     say_preemption(board, task)?;
     let order = order_of(board.alloc, task)?;

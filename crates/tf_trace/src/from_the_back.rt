@@ -19,7 +19,8 @@ pub(crate) fn write_lawler(
     board.say(
         "Lawler's algorithm (Lawler 1973), from the last place to the first. A job whose \
          successors all have their places is a candidate; t is when all jobs without a place are \
-         done. The candidate that costs least at t gets the place, the greater number among equals.",
+         done. The candidate that costs least at t gets the place, the greater number among \
+         equals.",
     )?;
     if task.class().is_due() {
         board.say("The cost of a job is its lateness C - d.")?;

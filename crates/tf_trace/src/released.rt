@@ -17,8 +17,9 @@ pub(crate) fn write_released(
     value: i128,
 ) -> Result<(), OutOfMemory> {
     board.say(
-        "Earliest due date first, with preemption (Horn 1974): at each time the released unfinished \
-         job with the earliest due date d is processed, the smaller number among equals.",
+        "Earliest due date first, with preemption (Horn 1974): at each time the released \
+         unfinished job with the earliest due date d is processed, the smaller number among \
+         equals.",
     )?;
     let ends = ends_of(board.alloc, task, pieces)?;
     show_events(board, task, pieces, &ends)?;

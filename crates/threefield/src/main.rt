@@ -68,8 +68,8 @@ fn program(rt: &HostRuntime) -> u8 {
     end_output(&mut console, status)
 }
 
-/// Says that there was no memory before a command ran, as JSON where that is asked for, and gives the
-/// exit status.
+/// Says that there was no memory before a command ran, as JSON where that is asked for, and gives
+/// the exit status.
 fn say_early_memory<E: Write>(errors: &mut Counted<E>, words: &[String]) -> u8 {
     if words.iter().any(|word| word.as_str() == "--json") {
         send(errors, JSON_MEMORY);
@@ -78,8 +78,8 @@ fn say_early_memory<E: Write>(errors: &mut Counted<E>, words: &[String]) -> u8 {
     say_memory(errors)
 }
 
-/// Where the output goes, standard error, the terminal that it is, if it is one, and the memory of the
-/// process.
+/// Where the output goes, standard error, the terminal that it is, if it is one, and the memory of
+/// the process.
 fn console<'a, E: Write + Drop>(
     rt: &'a HostRuntime,
     errors: Counted<E>,

@@ -5,8 +5,8 @@ use std::test::Fail;
 use tf_bound::certificate::BoundCertificate;
 use tf_model::ids::JobId;
 
-/// The kinds of certificates, in the order of their words. Machines count from 0. Multipliers have a
-/// denominator and the numerators of the arcs.
+/// The kinds of certificates, in the order of their words. Machines count from 0. Multipliers have
+/// a denominator and the numerators of the arcs.
 #[derive(Clone, Copy)]
 enum Kind {
     Machine(usize),
@@ -159,8 +159,8 @@ const BY_ROWS: &[Case] = &[
     (Sample::Dealt, Kind::Prices(6), &[10, 7, 4, 2], Some(11)),
 ];
 
-// On one machine of a shop. On the second machine of `Passed` job 1 costs 5 from the start 2 on, and
-// job 2 costs 4; on the first one they cost 4 and 3. In `Opened` no job is over before 3 and 4.
+// On one machine of a shop. On the second machine of `Passed` job 1 costs 5 from the start 2 on,
+// and job 2 costs 4; on the first one they cost 4 and 3. In `Opened` no job is over before 3 and 4.
 const ON_ONE: &[Case] = &[
     (
         Sample::Passed,
@@ -178,8 +178,8 @@ const ON_ONE: &[Case] = &[
     (Sample::Opened, Kind::MachinePrices(0, 1), &[1], Some(6)),
 ];
 
-// Of jobs that wait nowhere. Job 2 starts 2 after job 1 or later, and job 3 4; after job 2 they start 3
-// later, and after job 3 1.
+// Of jobs that wait nowhere. Job 2 starts 2 after job 1 or later, and job 3 4; after job 2 they
+// start 3 later, and after job 3 1.
 const NOWHERE: &[Case] = &[
     (
         Sample::NoWait,

@@ -34,7 +34,8 @@ pub(super) fn lay_second<A: Allocator, B: Allocator>(
     requires sound { IsSound task.now }
     requires order { IsJohnsonOrder task.now order.now }
     requires first { pieces.old.items ≡ laid (on_machine (time_at task.now) 1 order.now) }
-    ensures laid { IfOk result (λ _. pieces.new.items ≡ laid (in_line (time_at task.now) order.now)) }
+    ensures laid { IfOk result
+        (λ _. pieces.new.items ≡ laid (in_line (time_at task.now) order.now)) }
     ensures turn { IfOk result (λ turn. IsTurn (time_at task.now) order.now turn.late) }
     ensures value { IfOk result (λ turn.
         turn.second ≡ line_end (time_at task.now) 0 0 order.now) }

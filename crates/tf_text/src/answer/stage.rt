@@ -1,5 +1,6 @@
 //! Where the reading of an answer text stands: which line is wanted next.
-ghost use Rattle.std.specs.Prelude.{◌≡◌, ◌+◌, ◌<◌, ◌≤◌, ◌∷◌, [], ℕ, List, Result, codes, MatchResult, IfOk};
+ghost use Rattle.std.specs.Prelude.{◌≡◌, ◌+◌, ◌<◌, ◌≤◌, ◌∷◌, [], ℕ, List, Result, codes};
+ghost use Rattle.std.specs.Prelude.{MatchResult, IfOk};
 ghost use Rattle.tf_model.specs.Limit.{most_machines};
 ghost use Rattle.tf_words.specs.Words.{words, KeptLine, is_kept, kept_lines};
 ghost use Rattle.tf_words.specs.Lines.{line_of};
