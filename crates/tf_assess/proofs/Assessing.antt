@@ -1,17 +1,26 @@
 -- How an answer stands to the task of a problem.
-use Rattle.std.proofs.Common.{◌≡◌, ◌<◌, Bool, true, false, cond, ℤ, ◌≤ℤ◌, List, [], length, map, Option, None, Some, refl, sym, subst, ◌∙◌, arith}
+use Rattle.std.proofs.Common.{◌≡◌, ◌<◌, ◌≤◌, ◌-◌, Bool, true, false, cond, ℤ, ◌≤ℤ◌, List, get_or, [], length, map, Option, None, Some, refl, sym, subst, ◌∙◌, arith}
 use Rattle.std.specs.List.{All}
 use Rattle.std.specs.List.Sorted.{IsPermutation}
 use Rattle.std.proofs.lemmas.Bool.Decides.{Decides-int_eq}
 use Rattle.std.specs.Ordering.{int_eq}
 use Rattle.std.proofs.lemmas.List.Sorted.{All-permutation, IsPermutation-sym}
 use Rattle.tf_posed.specs.ProblemData.{ProblemData, problem_jobs}
+use Rattle.tf_model.specs.Timetable.{Timetable, cell}
+use Rattle.tf_posed.specs.FitsProblem.{FitsProblem}
 use Rattle.tf_posed.specs.ProblemCost.{problem_cost, IsLowerBound}
+use Rattle.tf_check.proofs.Verdicts.{fault_excludes}
+use Rattle.tf_plan.proofs.Complete.{no_misfit}
 use Rattle.tf_schedule.specs.declared.piece.Piece.{Piece}
 use Rattle.tf_schedule.specs.Piece.{machine_of}
 use Rattle.tf_schedule.specs.Schedule.{IsPiece, IsSchedule, NoneTwice}
 use Rattle.tf_schedule.specs.Drawing.{drawing, IsOnMachine}
-use Rattle.tf_schedule.proofs.Permuted.{drawing_permutation, draws_drawing}
+use Rattle.tf_schedule.specs.Amounts.{start_of}
+use Rattle.tf_schedule.specs.ProblemMisfit.{IsKnownTo}
+use Rattle.tf_schedule.specs.declared.misfit.ProblemMisfit.{ProblemMisfit}
+use Rattle.tf_schedule.proofs.Cells.{piece_draws, cell_within}
+use Rattle.tf_schedule.proofs.Times.{sound_times}
+use Rattle.tf_schedule.proofs.Permuted.{drawing_permutation, drawing_only, draws_drawing}
 use Rattle.tf_schedule.proofs.Scan.{claims_permutation}
 use Rattle.tf_schedule.specs.Lanes.{LanesData, HasLanes}
 use Rattle.tf_fit.specs.CostBy.{IsCostOrBeyond}
@@ -77,6 +86,35 @@ no_outcomes k ps (Fits value) (qs, kept, schedule, l, is, has) = absurd (cc)
 no_outcomes k ps (NoSchedule fault) is = refl
 no_outcomes k ps (Misfit misfit) (qs, kept, schedule, l, is, has) = absurd (cc)
 
+-- ---- pieces that do not fit draw nothing that does
+
+-- pieces that draw rows of the task's jobs alone are of such jobs
+known : (k : ProblemData) (ps : List Piece) → IsSchedule ps → All (λ p. 0 < p.job) ps
+    → All (IsOnMachine k.machines) ps → FitsProblem k (drawing k.machines ps) → All (IsKnownTo k) ps
+known k ps schedule numbered on fits i d h =
+    let p = get_or ps i d in
+    let drawn : cell (drawing k.machines ps) (start_of p) (p.machine - 1) ≡ p.job =
+    piece_draws k.machines ps i d (start_of p) schedule.none_twice on h (omega arith)
+    (sound_times p (schedule.sound i d h)) in
+    let within : cell (drawing k.machines ps) (start_of p) (p.machine - 1) ≤ length k.jobs =
+    cell_within (length k.jobs) (drawing k.machines ps) (start_of p) (p.machine - 1)
+    fits.jobs_only in
+    ((numbered i d h, omega (arith, drawn, within)), on i d h)
+
+misfit_excludes : (k : ProblemData) (ps : List Piece) (misfit : ProblemMisfit) (rows : Timetable)
+    → IsProblemJudged k ps (Misfit misfit) → DrawsProblem k ps rows → ⊥
+misfit_excludes k ps misfit rows (qs, kept, schedule, first) h =
+    let same : drawing k.machines qs ≡ drawing k.machines ps =
+    sym (drawing_permutation k.machines qs ps schedule.none_twice
+    (IsPermutation-sym ps qs kept)) in
+    let drawn : rows ≡ drawing k.machines qs =
+    drawing_only k.machines ps rows h.draws ∙ sym same in
+    let fits = subst (FitsProblem k) drawn h.fits in
+    no_misfit k qs
+    (known k qs schedule (All-permutation (λ p. 0 < p.job) ps qs kept h.draws.numbered)
+    (All-permutation (IsOnMachine k.machines) ps qs kept h.draws.on_machines) fits)
+    fits misfit first
+
 -- ---- what a schedule comes to
 
 module _ (k : ProblemData) (sheet : SheetData) where
@@ -100,9 +138,11 @@ module _ (k : ProblemData) (sheet : SheetData) where
   pub standing_is : {A : Type 0} (fit : Option ProblemFit) (bound : Found A)
       → HasProblemFit k sheet fit → IsFound k bound
       → HasAssessed k sheet (assessed_of fit bound.value)
-  standing_is None bound h found = tt
-  standing_is (Some (NoSchedule fault)) bound h found = tt
-  standing_is (Some (Misfit misfit)) bound h found = tt
+  standing_is None bound h found = λ is rows draws. h is
+  standing_is (Some (NoSchedule fault)) bound (is, first) found = λ _ rows draws.
+      fault_excludes sheet.answer.pieces fault draws.pieces draws.draws.none_twice first
+  standing_is (Some (Misfit misfit)) bound (is, first) found = λ _ rows draws.
+      misfit_excludes k sheet.answer.pieces misfit rows first draws
   standing_is (Some (Fits None)) bound (is, (rows, draws, costs)) found = (is, rows, draws)
   standing_is (Some (Fits (Some value))) bound h found =
       standing_at value bound.value h found.bound (int_eq value bound.value)

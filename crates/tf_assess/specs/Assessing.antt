@@ -190,7 +190,8 @@ HasAssessed k sheet Best = IsForProblem k sheet × (rows : Timetable)
 HasAssessed k sheet Unproved = IsForProblem k sheet × (rows : Timetable)
     × DrawsProblem k sheet.answer.pieces rows
 HasAssessed k sheet Beaten = ⊥
-HasAssessed k sheet (Unfit why) = Unit {0}
+HasAssessed k sheet (Unfit why) = IsForProblem k sheet → (rows : Timetable)
+    → ¬ (DrawsProblem k sheet.answer.pieces rows)
 
 pub record IsAssessment {A : Type 0} (k : ProblemData) (offer : Option BoundSheetData)
     (sheet : SheetData) (e : EvaluationData (Weighed A)) : Type 0 where

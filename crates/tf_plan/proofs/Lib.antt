@@ -3,7 +3,7 @@ mod Judged
 mod Steps
 mod Fitting
 pub mod Laid
-mod Complete
+pub mod Complete
 mod Orders
 pub mod Named
 mod Forbidden
