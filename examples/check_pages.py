@@ -7,8 +7,10 @@ A command stands behind "$ " in a block of the kind `console`, its further lines
 what it prints on both outputs.
 Where no line is shown, it only has to succeed. A file that a page shows by `cat` and that is not there yet is one that
 its reader writes, so it is written. The kit's own commands, which take long, are left out, and those of node, which has tests
-of its own. What docs/border.md says of each polynomial problem is compared with what the program does.
+of its own. What docs/border.md says of each polynomial problem is compared with what the program does, and each source file
+that a page names has to be there.
 """
+import glob
 import os
 import re
 import subprocess
@@ -21,6 +23,9 @@ PAGES = ["README.md", "docs/usage.md", "docs/answers.md", "docs/evaluating.md", 
 BORDER = re.compile(r"^\| (`.*?) \| .* \| (`solve`|`plan`|`bound`, met|`bound`|no) \|$", re.M)
 # The NP-hard problems of a row, what is said of them, and by whom.
 HARD = re.compile(r"^\| (`[^|]*) \|([^|]*)\| ([A-Z][^|]*) \|$", re.M)
+# A source file that a page names, and in the first cell of a row the others of its folder.
+SOURCE = r"`((?:(?:tf|test)_\w+/(?:src|specs|proofs|must-fail)|bench|examples|web)/[\w./*-]+)`"
+BESIDE = re.compile(rf"^\| {SOURCE}((?:, `\w+`)+)", re.M)
 LEFT_OUT = re.compile(r"^(export |bash \.ci/run|node |.*\brt (try|run|ci)\b)")
 
 
@@ -93,6 +98,23 @@ def mislisted():
             yield problem
 
 
+def named(page):
+    """The source files that a page names, without the ending where it gives none."""
+    with open(page, encoding="utf-8") as file:
+        text = file.read()
+    yield from re.findall(SOURCE, text)
+    for first, others in BESIDE.findall(text):
+        yield from (f"{os.path.dirname(first)}/{other}" for other in re.findall(r"`(\w+)`", others))
+
+
+def missing():
+    """The source files that the pages name and that are not there."""
+    for page in sorted([*glob.glob("*.md"), *glob.glob("*/*.md"), *glob.glob("examples/*/*.md")]):
+        for name in named(page):
+            if not any(glob.glob(folder + name + ending) for folder in ("", "crates/") for ending in ("", ".antt", ".rt")):
+                yield f"{page}: {name}: there is no such file"
+
+
 def told(problem):
     """What `solve --explain` says of a problem's complexity: the lines that say it is polynomial, NP-hard or trivial."""
     ran = subprocess.run(["threefield", "solve", "-p", problem, "--explain", os.devnull], capture_output=True, text=True)
@@ -133,6 +155,11 @@ def main(pages, folder):
     if wrong_rows:
         failed += 1
         print(f"docs/border.md: {', '.join(wrong_rows)}: the program does otherwise")
+    ran += 1
+    lost = list(missing())
+    if lost:
+        failed += 1
+        print("\n".join(lost))
     print(f"{ran - failed} passed, {failed} failed")
     return failed > 0
 
