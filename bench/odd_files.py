@@ -49,6 +49,10 @@ def cases():
         "refused: answer TooLong", "The answer is longer than 67108864 bytes, the most that a text may have.")
     yield "standard input beside a long file of its name", TABLE, ANSWER + "piece 1 1 0\ncert last 1 2\nend\n", [*CHECK[:-1], "-"], 2, (
         "refused: answer BadLine 6", 'A piece is "piece JOB MACHINE START STOP", four whole numbers, before the line "cert".')
+    named = b" instance one\nx\n1 2\n0 3 1 4\n instance tw\xff\nx\n1 2\n0 3 1 4\n"
+    yield "a flow shop instance whose name is no text, in a range", named, "", [
+        "solve", "-p", "F2||Cmax", "--format", "flow", "--index", "all", "jobs.txt"], 2, (
+        "threefield: refused: NoInstance\nthreefield: instance 2\n",)
     yield "an argument that is no text", TABLE, "", ["solve", "-p", "\udcff", "jobs.txt"], 5, ("threefield: an argument is no text",)
 
 
